@@ -1,0 +1,2 @@
+-- What more than one proof of `md4` cites.
+mod Places

@@ -1,0 +1,2 @@
+-- What more than one proof of `md5` cites.
+mod Places

@@ -1,0 +1,2 @@
+-- What more than one proof of `rc4` cites.
+mod Loops

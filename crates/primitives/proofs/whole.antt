@@ -1,0 +1,2 @@
+-- What more than one proof of `whole` cites.
+mod Answers

@@ -10,7 +10,7 @@ use lib.Pow.{mod-mod-pow}
 use lib.ListN.{length, take, drop, length-append, length-take, length-drop, take-append-drop, drop-of-length-le}
 use lib.Seq.{take-all, take-append-le, drop-append-le, paste}
 use Rattle.primitives.specs.Octets.{littleEndian}
-use Rattle.primitives.specs.Hash.{padding, padded, compress, afterBlocks, output, digest, begun, absorb, finished}
+use Rattle.primitives.specs.Hash.{initial, padding, padded, compress, afterBlocks, output, digest, begun, absorb, finished}
 use Rattle.primitives.specs.declared.hash.Words.{Words}
 use Rattle.primitives.specs.declared.hash.Algorithm.{Algorithm}
 use Rattle.primitives.specs.declared.hash.Hash.{Hash}
@@ -19,6 +19,15 @@ use Rattle.primitives.proofs.Padding.{padding-length, padding-mod}
 
 pub begun-held : (g : Algorithm) → Held (begun g)
 begun-held g = record { count-below = omega arith; block-length = refl }
+
+-- the state after a first block
+pub first-block : (g : Algorithm) (b : List ℕ) → length b ≡ 64
+    → absorb (begun g) b ≡ record { algorithm = g; words = compress g initial b; block = b; count = 64 }
+first-block g b size =
+    let all : take 64 b ≡ b = take-all 64 b (omega arith) in
+    ap (absorb (begun g)) (sym all)
+    ∙ absorb-fill (begun g) b (begun-held g) 64 (omega arith) (omega arith)
+    ∙ ap (λ (l : List ℕ). record { algorithm = g; words = compress g initial l; block = l; count = 64 }) (append-nil (take 64 b) ∙ all)
 
 -- blocks that are whole are as they were when more comes
 blocks-more : (g : Algorithm) (n : ℕ) (xs ys : List ℕ) → 64 * n ≤ length xs → afterBlocks g n (xs ++ ys) ≡ afterBlocks g n xs

@@ -153,6 +153,18 @@ impl Hash {
         }
     }
 
+    // After a first block.
+    pub fn of_block(algorithm: Algorithm, block: [u8; 64]) -> Self
+        ensures { λ r. ⌜ r ≡ Spec.absorb (Spec.begun algorithm) block ⌝ }
+    {
+        Hash {
+            algorithm: algorithm,
+            words: compress(algorithm, initial(), &block),
+            block: block,
+            count: 64,
+        }
+    }
+
     // A part more.
     pub fn update(self, part: &[u8]) -> Self
         ensures { λ r. ⌜ r ≡ Spec.absorb self (now (part .entry)) ⌝ }

@@ -59,8 +59,8 @@ impl Hmac {
         let ipad = xor_pad(0x36, block);
         let opad = xor_pad(0x5c, block);
         Hmac {
-            inner: Hash::new(Algorithm::Md5).update(&ipad),
-            outer: Hash::new(Algorithm::Md5).update(&opad),
+            inner: Hash::of_block(Algorithm::Md5, ipad),
+            outer: Hash::of_block(Algorithm::Md5, opad),
         }
     }
 

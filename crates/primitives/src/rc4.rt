@@ -92,23 +92,29 @@ impl Rc4 {
         }
     }
 
-    // The text under the keystream from here on, and the state where it stopped.
+    // The text under the keystream from here on, and the state where it stopped. `a` is the S[i] of the next octet, read before
+    // the places of this one are stored: the next j then waits for no store.
     pub fn apply(self, text: &mut [u8]) -> Self
         ensures { λ r. ⌜ Spec.Applied self (now (text .entry)) r (now (text .exit)) ⌝ }
     {
         let mut s = self.s;
         let mut i = index(self.i);
         let mut j = index(self.j);
+        let mut a = s[(i + 1) % 256];
         let mut n: usize = 0;
         while n < text.len() {
             i = (i + 1) % 256;
-            let a = s[i];
             j = (j + index(a)) % 256;
             let b = s[j];
+            let ahead = (i + 1) % 256;
+            let c = s[ahead];
             s[i] = b;
             s[j] = a;
             let k = (index(a) + index(b)) % 256;
             text[n] = text[n] ^ s[k];
+            if j != ahead {
+                a = c;
+            }
             n += 1;
         }
         Rc4 {

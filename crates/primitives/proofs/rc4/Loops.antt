@@ -93,18 +93,20 @@ scheduling-done {key} {s} {j} {k} {i} h end =
     let all : i ≡ 256 = omega (arith, h .within) in
     ap (λ (st : Rc4). state (st .s) 0 0) (h .state-is ∙ ap (turns key) all)
 
--- ---- The loop of `apply`: the first n octets of the text are under the keystream
+-- ---- The loop of `apply`: the first n octets of the text are under the keystream, and a is the S[i] of the next one
 
-pub record Applying (st : Rc4) (text₀ text s : List ℕ) (i j n : ℕ) : Type 0 where
+pub record Applying (st : Rc4) (text₀ text s : List ℕ) (i j a n : ℕ) : Type 0 where
   pub within : n ≤ length text₀
   pub text-length : length text ≡ length text₀
   pub s-length : length s ≡ 256
   pub i-below : i < 256
   pub j-below : j < 256
+  pub a-is : a ≡ getD s ((i + 1) % 256) 0
   pub state-is : state s i j ≡ after st n
   pub text-is : text ≡ apply st (take n text₀) ++ drop n text₀
 
-pub applying-none : (text s : List ℕ) (i j : ℕ) → length s ≡ 256 → i < 256 → j < 256 → Applying (state s i j) text text s i j 0
+pub applying-none : (text s : List ℕ) (i j : ℕ) → length s ≡ 256 → i < 256 → j < 256
+    → Applying (state s i j) text text s i j (getD s ((i + 1) % 256) 0) 0
 applying-none text s i j hs hi hj =
     record {
       within = omega arith;
@@ -112,6 +114,7 @@ applying-none text s i j hs hi hj =
       s-length = hs;
       i-below = hi;
       j-below = hj;
+      a-is = refl;
       state-is = sym (after-none (state s i j));
       text-is = rw apply-none;
     }
@@ -134,19 +137,38 @@ swap-octet s i j hi hj =
     ap₂ (λ (x y : ℕ). getD (swap s i j) ((x + y) % 256) 0) (swap-i s i j (ℕ-discrete i j) hi hj) (swap-j s i j hj)
     ∙ ap (λ (x : ℕ). getD (swap s i j) (x % 256) 0) (add-comm (getD s j 0) (getD s i 0))
 
+-- a' is what stands ahead of i after the swap of i and j, by what stood there before it
+abbrev pub Ahead : List ℕ → ℕ → ℕ → ℕ → ℕ → Type 0
+Ahead s ahead j a a' = ((j ≡ ahead → ⊥) × (a' ≡ getD s ahead 0)) ⊎ ((j ≡ ahead) × (a' ≡ a))
+
+ahead-is : (s : List ℕ) (i j b : ℕ) {ahead a a' : ℕ} → length s ≡ 256 → j < 256 → (ahead ≡ i → ⊥) → Ahead s ahead j a a'
+    → a' ≡ getD (set (set s i b) j a) ahead 0
+ahead-is s i j b {ahead} {a} {a'} size hj apart (inl (other, e)) =
+    e
+    ∙ sym (getD-set-other s i ahead b 0 apart)
+    ∙ sym (getD-set-other (set s i b) j ahead a 0 (λ same. other (sym same)))
+ahead-is s i j b {ahead} {a} {a'} size hj apart (inr (same, e)) =
+    e
+    ∙ sym (getD-set-same (set s i b) j a 0 (simp length-set (omega arith)))
+    ∙ ap (λ (k : ℕ). getD (set (set s i b) j a) k 0) same
+
 -- the values as the code has them: i' and j' are the next i and j, a and b are S[i'] and S[j'] before the swap
-module _ {st : Rc4} {text₀ text s : List ℕ} {i j n : ℕ} (h : Applying st text₀ text s i j n) (lt : n < length text)
-    (i' j' a b k : ℕ) (ei : i' ≡ (i + 1) % 256) (ea : a ≡ getD s i' 0) (ej : j' ≡ (j + a) % 256) (eb : b ≡ getD s j' 0) (ek : k ≡ (a + b) % 256) where
+module _ {st : Rc4} {text₀ text s : List ℕ} {i j a n : ℕ} (h : Applying st text₀ text s i j a n) (lt : n < length text)
+    (i' j' b k a' : ℕ) (ei : i' ≡ (i + 1) % 256) (ej : j' ≡ (j + a) % 256) (eb : b ≡ getD s j' 0) (ek : k ≡ (a + b) % 256)
+    (next-a : Ahead s ((i' + 1) % 256) j' a a') where
+  ea : a ≡ getD s i' 0
+  ea = h .a-is ∙ ap (λ (x : ℕ). getD s x 0) (sym ei)
+
   state-next : state (set (set s i' b) j' a) i' j' ≡ next (after st n)
   unfolding next
   state-next =
-      let e : state (set (set s i' b) j' a) i' j' ≡ next (state s i j) = cc in
+      let e : state (set (set s i' b) j' a) i' j' ≡ next (state s i j) = cc ea in
       e ∙ ap next (h .state-is)
 
   octet-next : getD (set (set s i' b) j' a) k 0 ≡ octet (next (after st n))
   octet-next =
-      let e : getD (set (set s i' b) j' a) k 0 ≡ getD (swap s i' j') ((getD s i' 0 + getD s j' 0) % 256) 0 = cc in
-      let f : state (set (set s i' b) j' a) i' j' ≡ state (swap s i' j') i' j' = cc in
+      let e : getD (set (set s i' b) j' a) k 0 ≡ getD (swap s i' j') ((getD s i' 0 + getD s j' 0) % 256) 0 = cc ea in
+      let f : state (set (set s i' b) j' a) i' j' ≡ state (swap s i' j') i' j' = cc ea in
       e ∙ sym (swap-octet s i' j' (omega (arith, h .s-length)) (omega (arith, h .s-length))) ∙ ap octet (sym f ∙ state-next)
 
   text-more : (v : ℕ) → v ≡ bitXor (getD text n 0) (octet (next (after st n))) → set text n v ≡ apply st (take (n + 1) text₀) ++ drop (n + 1) text₀
@@ -169,7 +191,7 @@ module _ {st : Rc4} {text₀ text s : List ℕ} {i j n : ℕ} (h : Applying st t
       ∙ sym (append-snoc front (bitXor x o) rest)
       ∙ ap (λ (l : List ℕ). l ++ rest) (sym more))
 
-  pub applying-more : Applying st text₀ (set text n (bitXor (getD text n 0) (getD (set (set s i' b) j' a) k 0))) (set (set s i' b) j' a) i' j' (n + 1)
+  pub applying-more : Applying st text₀ (set text n (bitXor (getD text n 0) (getD (set (set s i' b) j' a) k 0))) (set (set s i' b) j' a) i' j' a' (n + 1)
   applying-more =
       record {
         within = omega (arith, h .text-length);
@@ -177,13 +199,14 @@ module _ {st : Rc4} {text₀ text s : List ℕ} {i j n : ℕ} (h : Applying st t
         s-length = simp length-set (h .s-length);
         i-below = omega arith;
         j-below = omega arith;
+        a-is = ahead-is s i' j' b (h .s-length) (omega arith) (λ same. omega arith) next-a;
         state-is = state-next ∙ sym (after-more st n);
         text-is = text-more _ (ap (bitXor (getD text n 0)) octet-next);
       }
 
-pub applying-done : {st : Rc4} {text₀ text s : List ℕ} {i j n : ℕ} (self : Rc4) → st ≡ self → Applying st text₀ text s i j n → length text ≤ n
+pub applying-done : {st : Rc4} {text₀ text s : List ℕ} {i j a n : ℕ} (self : Rc4) → st ≡ self → Applying st text₀ text s i j a n → length text ≤ n
     → Applied self text₀ (state s i j) text
-applying-done {st} {text₀} {text} {s} {i} {j} {n} self e h end =
+applying-done {st} {text₀} {text} {s} {i} {j} {a} {n} self e h end =
     let all : n ≡ length text₀ = omega (arith, h .text-length, h .within) in
     record {
       text-left = h .text-is

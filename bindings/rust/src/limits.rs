@@ -1,0 +1,20 @@
+//! The limits of lengths, in octets: the last length that is let in, or the
+//! first where the name ends in `MIN`. Without a `MIN` the first is 0.
+
+/// The most octets that [`md4`](crate::md4) and [`md5`](crate::md5) digest.
+pub const DIGEST_DATA_MAX: usize = 65_536;
+
+/// The longest key of [`hmac_md5`](crate::hmac_md5).
+pub const HMAC_KEY_MAX: usize = 65_536;
+
+/// The longest text of [`hmac_md5`](crate::hmac_md5).
+pub const HMAC_TEXT_MAX: usize = 65_472;
+
+/// The shortest key of [`rc4`](crate::rc4).
+pub const RC4_KEY_MIN: usize = 1;
+
+/// The longest key of [`rc4`](crate::rc4).
+pub const RC4_KEY_MAX: usize = 256;
+
+/// The most octets that [`rc4`](crate::rc4) takes at once.
+pub const RC4_DATA_MAX: usize = 65_536;

@@ -1,0 +1,71 @@
+//! The refusals of the library, by name and by number.
+
+use std::error::Error;
+use std::fmt;
+
+/// Why the library did not do what it was asked.
+#[derive(Clone, Copy, Debug, PartialEq, Eq, Hash)]
+#[non_exhaustive]
+pub enum Refusal {
+    /// A length is outside its [limits](crate::limits).
+    Length,
+    /// A number that this binding has no name for. The archive of the same
+    /// version answers none; a later one might.
+    Unnamed(u32),
+}
+
+impl Refusal {
+    /// The number of this refusal in the C interface.
+    pub fn number(self) -> u32 {
+        match self {
+            Refusal::Length => 1,
+            Refusal::Unnamed(number) => number,
+        }
+    }
+
+    /// What a function of [`raw`](crate::raw) answered.
+    pub(crate) fn check(number: u32) -> Result<(), Refusal> {
+        match number {
+            0 => Ok(()),
+            1 => Err(Refusal::Length),
+            _ => Err(Refusal::Unnamed(number)),
+        }
+    }
+}
+
+impl fmt::Display for Refusal {
+    fn fmt(&self, f: &mut fmt::Formatter<'_>) -> fmt::Result {
+        match self {
+            Refusal::Length => f.write_str("a length is outside its limits"),
+            Refusal::Unnamed(number) => write!(f, "refusal number {number}"),
+        }
+    }
+}
+
+impl Error for Refusal {}
+
+#[cfg(test)]
+mod tests {
+    use super::Refusal;
+
+    #[test]
+    fn number_0_is_no_refusal() {
+        assert_eq!(Refusal::check(0), Ok(()));
+    }
+
+    #[test]
+    fn number_1_is_the_refusal_of_a_length() {
+        assert_eq!(Refusal::check(1), Err(Refusal::Length));
+        assert_eq!(Refusal::Length.number(), 1);
+    }
+
+    #[test]
+    fn a_number_without_a_name_is_kept_as_it_is() {
+        for number in [8, 256, u32::MAX] {
+            let refusal = Refusal::check(number).unwrap_err();
+            assert_eq!(refusal, Refusal::Unnamed(number));
+            assert_eq!(refusal.number(), number);
+            assert!(refusal.to_string().contains(&number.to_string()));
+        }
+    }
+}

@@ -1,0 +1,46 @@
+//! Inputs that are the same in every run: counting octets, and pseudo-random
+//! ones out of a fixed seed.
+
+/// The same for every run; each test adds its own number.
+const SEED: u64 = 0x5243_3448_4d41_4335;
+
+/// A linear congruential generator modulo 2^64, of which only the upper half
+/// of the state is handed out.
+pub struct Inputs {
+    state: u64,
+}
+
+impl Inputs {
+    pub fn new(number: u64) -> Inputs {
+        let mut inputs = Inputs {
+            state: SEED.wrapping_add(number),
+        };
+        // Takes seeds that lie side by side apart.
+        for _ in 0..4 {
+            inputs.next();
+        }
+        inputs
+    }
+
+    fn next(&mut self) -> u32 {
+        self.state = self
+            .state
+            .wrapping_mul(0x5851_f42d_4c95_7f2d)
+            .wrapping_add(0x1405_7b7e_f767_814f);
+        (self.state >> 32) as u32
+    }
+
+    /// A number from `first` to `last`, both included.
+    pub fn number(&mut self, first: usize, last: usize) -> usize {
+        first + self.next() as usize % (last - first + 1)
+    }
+
+    pub fn octets(&mut self, len: usize) -> Vec<u8> {
+        (0..len).map(|_| (self.next() >> 24) as u8).collect()
+    }
+}
+
+/// The octets 0, 1, 2, ... 255, 0, 1, ...
+pub fn counting(len: usize) -> Vec<u8> {
+    (0..len).map(|i| i as u8).collect()
+}

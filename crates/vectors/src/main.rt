@@ -1,0 +1,11 @@
+// Runs the published test vectors and the refusals at each limit. What it writes is held to the file `stdout`.
+mod digests;
+mod keystreams;
+mod limits;
+mod text;
+
+fn main() {
+    digests::run();
+    keystreams::run();
+    limits::run();
+}

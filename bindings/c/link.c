@@ -39,46 +39,46 @@ static int same_digest(const uint8_t *digest, const uint8_t *expected)
     return memcmp(digest, expected, RC4HMAC_DIGEST_LEN) == 0;
 }
 
-static void check_md4(void)
+/* A digest of "abc", and of data one octet too long. */
+static void check_digest(uint32_t (*call)(const uint8_t *, size_t, uint8_t *),
+                         const uint8_t *expected,
+                         const char *vector, const char *refusal)
 {
-    /* RFC 1320, A.5: "abc". */
-    static const uint8_t expected[RC4HMAC_DIGEST_LEN] = {
-        0xa4, 0x48, 0x01, 0x7a, 0xaf, 0x21, 0xd8, 0x52,
-        0x5f, 0xc1, 0x0a, 0xe8, 0x7a, 0xa6, 0x72, 0x9d
-    };
     uint8_t digest[RC4HMAC_DIGEST_LEN];
     uint32_t answer;
 
     memset(digest, 0xee, sizeof digest);
-    answer = rc4hmac_md4((const uint8_t *)"abc", 3, digest);
-    check("MD4 of \"abc\"",
-          answer == RC4HMAC_DONE && same_digest(digest, expected));
+    answer = call((const uint8_t *)"abc", 3, digest);
+    check(vector, answer == RC4HMAC_DONE && same_digest(digest, expected));
 
-    answer = rc4hmac_md4(too_long, RC4HMAC_DIGEST_DATA_MAX + 1u, digest);
-    check("MD4 refuses data one octet too long",
+    answer = call(too_long, RC4HMAC_DIGEST_DATA_MAX + 1u, digest);
+    check(refusal,
           answer == RC4HMAC_REFUSED_LENGTH
               && all_are(digest, sizeof digest, 0));
 }
 
+static void check_md4(void)
+{
+    /* RFC 1320, A.5. */
+    static const uint8_t expected[RC4HMAC_DIGEST_LEN] = {
+        0xa4, 0x48, 0x01, 0x7a, 0xaf, 0x21, 0xd8, 0x52,
+        0x5f, 0xc1, 0x0a, 0xe8, 0x7a, 0xa6, 0x72, 0x9d
+    };
+
+    check_digest(rc4hmac_md4, expected, "MD4 of \"abc\"",
+                 "MD4 refuses data one octet too long");
+}
+
 static void check_md5(void)
 {
-    /* RFC 1321, A.5: "abc". */
+    /* RFC 1321, A.5. */
     static const uint8_t expected[RC4HMAC_DIGEST_LEN] = {
         0x90, 0x01, 0x50, 0x98, 0x3c, 0xd2, 0x4f, 0xb0,
         0xd6, 0x96, 0x3f, 0x7d, 0x28, 0xe1, 0x7f, 0x72
     };
-    uint8_t digest[RC4HMAC_DIGEST_LEN];
-    uint32_t answer;
 
-    memset(digest, 0xee, sizeof digest);
-    answer = rc4hmac_md5((const uint8_t *)"abc", 3, digest);
-    check("MD5 of \"abc\"",
-          answer == RC4HMAC_DONE && same_digest(digest, expected));
-
-    answer = rc4hmac_md5(too_long, RC4HMAC_DIGEST_DATA_MAX + 1u, digest);
-    check("MD5 refuses data one octet too long",
-          answer == RC4HMAC_REFUSED_LENGTH
-              && all_are(digest, sizeof digest, 0));
+    check_digest(rc4hmac_md5, expected, "MD5 of \"abc\"",
+                 "MD5 refuses data one octet too long");
 }
 
 static void check_hmac_md5(void)

@@ -1,6 +1,6 @@
 -- The lengths that the calls take, in octets, and what a call answers that can refuse a length.
 use Prim.Native.Nat.{ℕ}
-use mathlib.Core.Bool.{Bool, _&&_, cond}
+use mathlib.Core.Bool.{_&&_, cond}
 use lib.Dec.{leb}
 use Rattle.primitives.specs.declared.limits.Status.{Status}
 use Rattle.primitives.specs.declared.limits.Status.the-variants.{Done, Length}

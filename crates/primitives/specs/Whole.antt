@@ -11,9 +11,13 @@ use Rattle.primitives.specs.declared.hash.Algorithm.{Algorithm}
 use Rattle.primitives.specs.declared.limits.Status.{Status}
 use Rattle.primitives.specs.declared.whole.Digest.{Digest}
 
--- the status with a digest: sixteen zeros with a refusal
+-- a refusal has sixteen zeros with it
+abbrev pub zerosWith : Status → Digest
+zerosWith s = record { status = s; octets = replicate 16 0 }
+
+-- the status with a digest
 abbrev pub digestAnswer : Status → List ℕ → Digest
-digestAnswer s octets = record { status = s; octets = given s octets (replicate 16 0) }
+digestAnswer s octets = given s (record { status = s; octets = octets }) (zerosWith s)
 
 -- the digest of the data
 unfoldable pub digested : Algorithm → List ℕ → Digest

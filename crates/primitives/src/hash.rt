@@ -10,6 +10,7 @@ use crate::md5;
 use crate::octets;
 use std::num::wrapping_add_u64;
 
+// Which compression a digest is made by; all else is the same for both.
 pub enum Algorithm {
     Md4,
     Md5,
@@ -32,6 +33,7 @@ pub struct Hash {
     pub count: u64,
 }
 
+// Section 3.3: the words before the first block.
 fn initial() -> Words
     ensures { λ r. ⌜ r ≡ Spec.initial ⌝ }
 {
@@ -43,6 +45,7 @@ fn initial() -> Words
     }
 }
 
+// Section 3.4: one block.
 fn compress(algorithm: Algorithm, w: Words, block: &[u8; 64]) -> Words
     ensures { λ r. ⌜ r ≡ Spec.compress algorithm w (now (block .entry)) ⌝ }
 {
@@ -66,6 +69,7 @@ fn whole_block(part: &[u8], from: usize) -> [u8; 64]
     block
 }
 
+// The lesser of two numbers.
 fn least(a: usize, b: usize) -> usize
     ensures { λ r. ⌜ r ≡ min a b ⌝ }
 {

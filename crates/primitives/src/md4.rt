@@ -14,6 +14,7 @@ const SHIFTS: [u32; 12] = [3, 7, 11, 19, 3, 5, 9, 13, 3, 9, 11, 15];
 // The order of the words in round 3.
 const ORDER: [usize; 16] = [0, 8, 4, 12, 2, 10, 6, 14, 1, 9, 5, 13, 3, 11, 7, 15];
 
+// G(X,Y,Z) = XY v XZ v YZ.
 fn aux_g(x: u32, y: u32, z: u32) -> u32
     ensures { λ r. ⌜ r ≡ Spec.auxG x y z ⌝ }
 {

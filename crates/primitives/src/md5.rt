@@ -79,12 +79,14 @@ const ADDENDS: [u32; 64] = [
 // The shift amounts, four to a round, used in turn.
 const SHIFTS: [u32; 16] = [7, 12, 17, 22, 5, 9, 14, 20, 4, 11, 16, 23, 6, 10, 15, 21];
 
+// G(X,Y,Z) = XZ v Y not(Z).
 fn aux_g(x: u32, y: u32, z: u32) -> u32
     ensures { λ r. ⌜ r ≡ Spec.auxG x y z ⌝ }
 {
     (x & z) | (y & !z)
 }
 
+// I(X,Y,Z) = Y xor (X v not(Z)).
 fn aux_i(x: u32, y: u32, z: u32) -> u32
     ensures { λ r. ⌜ r ≡ Spec.auxI x y z ⌝ }
 {

@@ -2,40 +2,40 @@
 ghost use mathlib.Core.Path.{_≡_};
 ghost use Rattle.primitives.specs.Octets as Spec;
 
-// The octets of a word, the lowest first.
-pub fn four(x: u32) -> [u8; 4]
-    ensures { λ r. ⌜ r ≡ Spec.littleEndian 4 x ⌝ }
+// The octets of a word.
+pub fn four(w: u32) -> [u8; 4]
+    ensures { λ r. ⌜ r ≡ Spec.littleEndian 4 w ⌝ }
 {
-    let b = x / 256;
-    let c = b / 256;
-    let d = c / 256;
+    let w1 = w / 256;
+    let w2 = w1 / 256;
+    let w3 = w2 / 256;
     [
-        (x % 256) as u8,
-        (b % 256) as u8,
-        (c % 256) as u8,
-        (d % 256) as u8,
+        (w % 256) as u8,
+        (w1 % 256) as u8,
+        (w2 % 256) as u8,
+        (w3 % 256) as u8,
     ]
 }
 
-// The octets of a number of 64 bits, the lowest first.
+// The octets of a number of 64 bits.
 pub fn eight(x: u64) -> [u8; 8]
     ensures { λ r. ⌜ r ≡ Spec.littleEndian 8 x ⌝ }
 {
-    let b = x / 256;
-    let c = b / 256;
-    let d = c / 256;
-    let e = d / 256;
-    let f = e / 256;
-    let g = f / 256;
-    let h = g / 256;
+    let x1 = x / 256;
+    let x2 = x1 / 256;
+    let x3 = x2 / 256;
+    let x4 = x3 / 256;
+    let x5 = x4 / 256;
+    let x6 = x5 / 256;
+    let x7 = x6 / 256;
     [
         (x % 256) as u8,
-        (b % 256) as u8,
-        (c % 256) as u8,
-        (d % 256) as u8,
-        (e % 256) as u8,
-        (f % 256) as u8,
-        (g % 256) as u8,
-        (h % 256) as u8,
+        (x1 % 256) as u8,
+        (x2 % 256) as u8,
+        (x3 % 256) as u8,
+        (x4 % 256) as u8,
+        (x5 % 256) as u8,
+        (x6 % 256) as u8,
+        (x7 % 256) as u8,
     ]
 }

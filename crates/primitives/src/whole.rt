@@ -15,15 +15,23 @@ pub struct Digest {
     pub octets: [u8; 16],
 }
 
+// A refusal, with its zeros.
+fn refused(status: Status) -> Digest
+    ensures { λ r. ⌜ r ≡ Spec.zerosWith status ⌝ }
+{
+    Digest {
+        status: status,
+        octets: [0u8; 16],
+    }
+}
+
+// The digest of 0 to 65,536 octets.
 fn digest_of(algorithm: Algorithm, data: &[u8]) -> Digest
     ensures { λ r. ⌜ r ≡ Spec.digested algorithm (now («data» .entry)) ⌝ }
 {
     let status = limits::length_status(0, limits::MOST_OCTETS, data.len());
     let Status::Done = status else {
-        return Digest {
-            status: status,
-            octets: [0u8; 16],
-        };
+        return refused(status);
     };
     Digest {
         status: status,
@@ -51,17 +59,11 @@ pub fn hmac_md5(key: &[u8], text: &[u8]) -> Digest
 {
     let keyed = limits::length_status(0, limits::MOST_HMAC_KEY, key.len());
     let Status::Done = keyed else {
-        return Digest {
-            status: keyed,
-            octets: [0u8; 16],
-        };
+        return refused(keyed);
     };
     let status = limits::length_status(0, limits::MOST_HMAC_TEXT, text.len());
     let Status::Done = status else {
-        return Digest {
-            status: status,
-            octets: [0u8; 16],
-        };
+        return refused(status);
     };
     Digest {
         status: status,

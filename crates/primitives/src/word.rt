@@ -13,12 +13,14 @@ pub fn rotate_left(x: u32, s: u32) -> u32
     (x << (s % 32)) | (x >> ((32 - s) % 32))
 }
 
+// F(X,Y,Z) = XY v not(X) Z.
 pub fn aux_f(x: u32, y: u32, z: u32) -> u32
     ensures { λ r. ⌜ r ≡ Spec.auxF x y z ⌝ }
 {
     (x & y) | (!x & z)
 }
 
+// H(X,Y,Z) = X xor Y xor Z.
 pub fn aux_h(x: u32, y: u32, z: u32) -> u32
     ensures { λ r. ⌜ r ≡ Spec.auxH x y z ⌝ }
 {

@@ -1,36 +1,14 @@
 //! MD4 in Rust, with the 48 steps written out.
 
+use super::blocks::{digest_whole, f, h, words};
+
 #[inline(never)]
 pub fn md4(data: &[u8], digest: &mut [u8; 16]) {
-    let mut state = [0x6745_2301, 0xefcd_ab89, 0x98ba_dcfe, 0x1032_5476];
-    let (blocks, rest) = data.as_chunks();
-    for block in blocks {
-        compress(&mut state, block);
-    }
-    let mut last = [0; 64];
-    last[..rest.len()].copy_from_slice(rest);
-    last[rest.len()] = 0x80;
-    if rest.len() >= 56 {
-        compress(&mut state, &last);
-        last.fill(0);
-    }
-    last[56..].copy_from_slice(&(data.len() as u64).wrapping_mul(8).to_le_bytes());
-    compress(&mut state, &last);
-    for (octets, word) in digest.chunks_exact_mut(4).zip(state) {
-        octets.copy_from_slice(&word.to_le_bytes());
-    }
-}
-
-fn f(x: u32, y: u32, z: u32) -> u32 {
-    z ^ (x & (y ^ z))
+    digest_whole(compress, data, digest);
 }
 
 fn g(x: u32, y: u32, z: u32) -> u32 {
     (x & y) | (z & (x | y))
-}
-
-fn h(x: u32, y: u32, z: u32) -> u32 {
-    x ^ y ^ z
 }
 
 macro_rules! step {
@@ -44,8 +22,7 @@ macro_rules! step {
 }
 
 fn compress(state: &mut [u32; 4], block: &[u8; 64]) {
-    let (words, _) = block.as_chunks();
-    let x: [u32; 16] = std::array::from_fn(|k| u32::from_le_bytes(words[k]));
+    let x = words(block);
     let [mut a, mut b, mut c, mut d] = *state;
 
     step!(f, a, b, c, d, x[0], 3, 0);

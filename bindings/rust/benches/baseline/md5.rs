@@ -1,6 +1,8 @@
 //! MD5 in Rust: the 64 steps written out behind new, update and finish, and as
 //! one loop over tables.
 
+use super::blocks::{digest_whole, f, h, words, write_digest, INITIAL};
+
 /// MD5 over parts of a message, with the 64 steps written out.
 pub struct Md5 {
     state: [u32; 4],
@@ -62,46 +64,11 @@ pub fn md5(data: &[u8], digest: &mut [u8; 16]) {
 /// The same digest by one loop of 64 steps that looks up addends and shifts.
 #[inline(never)]
 pub fn md5_table_driven(data: &[u8], digest: &mut [u8; 16]) {
-    let mut state = INITIAL;
-    let (blocks, rest) = data.as_chunks();
-    for block in blocks {
-        compress_table_driven(&mut state, block);
-    }
-    let mut last = [0; 64];
-    last[..rest.len()].copy_from_slice(rest);
-    last[rest.len()] = 0x80;
-    if rest.len() >= 56 {
-        compress_table_driven(&mut state, &last);
-        last.fill(0);
-    }
-    last[56..].copy_from_slice(&(data.len() as u64).wrapping_mul(8).to_le_bytes());
-    compress_table_driven(&mut state, &last);
-    write_digest(state, digest);
-}
-
-const INITIAL: [u32; 4] = [0x6745_2301, 0xefcd_ab89, 0x98ba_dcfe, 0x1032_5476];
-
-fn write_digest(state: [u32; 4], digest: &mut [u8; 16]) {
-    for (octets, word) in digest.chunks_exact_mut(4).zip(state) {
-        octets.copy_from_slice(&word.to_le_bytes());
-    }
-}
-
-fn words(block: &[u8; 64]) -> [u32; 16] {
-    let (words, _) = block.as_chunks();
-    std::array::from_fn(|k| u32::from_le_bytes(words[k]))
-}
-
-fn f(x: u32, y: u32, z: u32) -> u32 {
-    z ^ (x & (y ^ z))
+    digest_whole(compress_table_driven, data, digest);
 }
 
 fn g(x: u32, y: u32, z: u32) -> u32 {
     (x & z) | (y & !z)
-}
-
-fn h(x: u32, y: u32, z: u32) -> u32 {
-    x ^ y ^ z
 }
 
 fn i(x: u32, y: u32, z: u32) -> u32 {

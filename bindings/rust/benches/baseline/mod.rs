@@ -4,6 +4,7 @@
 // Each bench uses its own share of this module.
 #![allow(dead_code, unused_imports)]
 
+mod blocks;
 mod hmac;
 mod md4;
 mod md5;

@@ -2,20 +2,23 @@
 use mathlib.Core.Path.{_≡_, refl, sym, ap, ap₂, _∙_}
 use mathlib.Core.List.{List}
 use Prim.Native.Nat.{ℕ}
-use lib.ListN.{length, replicate}
-use Rattle.primitives.specs.Limits.{leastRc4Key, mostRc4Key, lengthStatus, firstRefusal, given}
+use lib.ListN.{length}
+use Rattle.primitives.specs.Limits.{leastRc4Key, mostRc4Key, lengthStatus, firstRefusal}
 use Rattle.primitives.specs.Rc4 as Rc4
-use Rattle.primitives.specs.Whole.{digestAnswer, rc4Status, Ciphered}
+use Rattle.primitives.specs.Whole.{zerosWith, digestAnswer, rc4Status, Ciphered}
 use Rattle.primitives.specs.declared.limits.Status.{Status}
 use Rattle.primitives.specs.declared.limits.Status.the-variants.{Done, Length}
 use Rattle.primitives.specs.declared.rc4.Begun.{Begun}
 use Rattle.primitives.specs.declared.rc4.Rc4.{Rc4 as State}
 use Rattle.primitives.specs.declared.whole.Digest.{Digest}
 
--- a status and octets are the answer with a digest
-pub answered : {s status : Status} {octets : List ℕ} (digest : List ℕ) → s ≡ status → octets ≡ given s digest (replicate 16 0)
-    → _≡_ {A = Digest} (record { status = s; octets = octets }) (digestAnswer status digest)
-answered digest es eo = rw (eo, es)
+-- what is answered where the status is known
+module _ {s status : Status} (e : s ≡ status) where
+  pub digest-refused : (digest : List ℕ) {r : Digest} → s ≡ Length → r ≡ zerosWith s → r ≡ digestAnswer status digest
+  digest-refused digest l er = er ∙ ap zerosWith e ∙ rw (sym e ∙ l) refl
+
+  pub digest-done : {octets digest : List ℕ} → s ≡ Done → octets ≡ digest → _≡_ {A = Digest} (record { status = s; octets = octets }) (digestAnswer status digest)
+  digest-done d eo = rw (eo, sym e, d) refl
 
 -- the first of two statuses is refused
 pub first-refused : {s a : Status} (b : Status) → s ≡ a → s ≡ Length → s ≡ firstRefusal a b

@@ -3,7 +3,7 @@ use mathlib.Core.Path.{_≡_}
 use mathlib.Core.List.{List, _++_}
 use Prim.Native.Nat.{ℕ, _+_}
 use lib.ListN.{length}
-use Rattle.primitives.specs.Octets.{Octets}
+use Rattle.primitives.specs.Octets.{Octets, joined}
 use Rattle.primitives.specs.Hash as Hash
 use Rattle.primitives.specs.Hash.{digest}
 use Rattle.primitives.specs.Hmac as Hmac
@@ -23,24 +23,28 @@ use Rattle.primitives.proofs.Keystream as Keystream
 pub digest-length : (g : Algorithm) (message : List ℕ) → length (digest g message) ≡ 16
 digest-length = Parts.digest-length
 
--- however a message is cut into parts, absorbing them in turn is absorbing the whole
-pub hash-append : (h : HashState) (xs ys : List ℕ) → Hash.absorb h (xs ++ ys) ≡ Hash.absorb (Hash.absorb h xs) ys
-hash-append = Absorb.absorb-append
+-- however a message is cut into parts, they have the digest of the whole
+pub hash-parts : (g : Algorithm) (parts : List (List ℕ)) → Hash.finished (Hash.absorbEach (Hash.begun g) parts) ≡ digest g (joined parts)
+hash-parts = Parts.parts-digest
 
--- and the digest is that of the whole
+-- the same for one part, and for two in a row from any state
 pub hash-digest : (g : Algorithm) (message : List ℕ) → Hash.finished (Hash.absorb (Hash.begun g) message) ≡ digest g message
 hash-digest = Parts.finished-digest
+
+pub hash-append : (h : HashState) (xs ys : List ℕ) → Hash.absorb h (xs ++ ys) ≡ Hash.absorb (Hash.absorb h xs) ys
+hash-append = Absorb.absorb-append
 
 -- ---- HMAC-MD5
 
 pub hmac-length : (key text : List ℕ) → length (hmac key text) ≡ 16
 hmac-length = HmacParts.hmac-length
 
-pub hmac-append : (h : HmacState) (xs ys : List ℕ) → Hmac.absorb h (xs ++ ys) ≡ Hmac.absorb (Hmac.absorb h xs) ys
-hmac-append = HmacParts.hmac-absorb-append
-
+-- a text in parts has the HMAC of the whole
 pub hmac-digest : (key text : List ℕ) → Hmac.finished (Hmac.absorb (Hmac.begun key) text) ≡ hmac key text
 hmac-digest = HmacParts.finished-hmac
+
+pub hmac-append : (h : HmacState) (xs ys : List ℕ) → Hmac.absorb h (xs ++ ys) ≡ Hmac.absorb (Hmac.absorb h xs) ys
+hmac-append = HmacParts.hmac-absorb-append
 
 -- ---- RC4
 

@@ -9,8 +9,8 @@ use borrow.Author.Tests.{eq-eqb}
 use lib.Pow.{mod-mod-pow}
 use lib.ListN.{length, take, drop, length-append, length-take, length-drop, take-append-drop, drop-of-length-le}
 use lib.Seq.{take-all, take-append-le, drop-append-le, paste}
-use Rattle.primitives.specs.Octets.{littleEndian}
-use Rattle.primitives.specs.Hash.{initial, padding, padded, compress, afterBlocks, output, digest, begun, absorb, finished}
+use Rattle.primitives.specs.Octets.{joined, littleEndian}
+use Rattle.primitives.specs.Hash.{initial, padding, padded, compress, afterBlocks, output, digest, begun, absorb, absorbEach, finished}
 use Rattle.primitives.specs.declared.hash.Words.{Words}
 use Rattle.primitives.specs.declared.hash.Algorithm.{Algorithm}
 use Rattle.primitives.specs.declared.hash.Hash.{Hash}
@@ -94,6 +94,15 @@ finished-digest g message =
     (ap (λ (l : List ℕ). absorb (absorb (begun g) message) l .words) (ap padding count ∙ padding-mod n)
     ∙ ap (λ (h : Hash). h .words) (sym (absorb-append (begun g) message (padding n)))
     ∙ absorb-blocks g (length (padded message) / 64) (padded message) whole)
+
+-- parts in turn are absorbed as the whole
+absorb-each : (h : Hash) (parts : List (List ℕ)) → absorbEach h parts ≡ absorb h (joined parts)
+unfolding absorbEach joined absorb
+absorb-each h [] = refl
+absorb-each h (part ∷ parts) = absorb-each (absorb h part) parts ∙ sym (absorb-append h part (joined parts))
+
+pub parts-digest : (g : Algorithm) (parts : List (List ℕ)) → finished (absorbEach (begun g) parts) ≡ digest g (joined parts)
+parts-digest g parts = ap finished (absorb-each (begun g) parts) ∙ finished-digest g (joined parts)
 
 pub digest-length : (g : Algorithm) (message : List ℕ) → length (digest g message) ≡ 16
 unfolding digest output littleEndian

@@ -75,6 +75,11 @@ unfoldable pub absorb : Hash → List ℕ → Hash
 absorb h [] = h
 absorb h (x ∷ xs) = absorb (put h x) xs
 
+-- several parts more, in turn
+unfoldable pub absorbEach : Hash → List (List ℕ) → Hash
+absorbEach h [] = h
+absorbEach h (part ∷ parts) = absorbEach (absorb h part) parts
+
 -- the digest of what has been absorbed
 unfoldable pub finished : Hash → List ℕ
 finished h = output (absorb h (padding (h .count)) .words)

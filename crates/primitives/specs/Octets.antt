@@ -1,12 +1,17 @@
--- Octets: lists of numbers below 256, numbers written as octets, and addition without carry.
+-- Octets: lists of numbers below 256, parts joined, numbers written as octets, and addition without carry.
 use Prim.Native.Nat.{ℕ, zero, suc, _/_, _%_, _<_}
-use mathlib.Core.List.{List, [], _∷_}
+use mathlib.Core.List.{List, [], _∷_, _++_}
 use lib.Bits.{bitXor}
 use lib.ListN.{getD}
 
 -- every element is an octet
 abbrev pub Octets : List ℕ → Type 0
 Octets l = (i : ℕ) → getD l i 0 < 256
+
+-- parts, one after the other
+unfoldable pub joined : List (List ℕ) → List ℕ
+joined [] = []
+joined (part ∷ parts) = part ++ joined parts
 
 -- the n low-order octets of x, the lowest first
 unfoldable pub littleEndian : ℕ → ℕ → List ℕ

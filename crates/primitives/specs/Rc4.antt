@@ -78,7 +78,7 @@ unfoldable pub apply : Rc4 → List ℕ → List ℕ
 apply st text = xorEach text (keystream st (length text))
 
 -- a text under a key, from the keystream's beginning
-unfoldable pub rc4 : List ℕ → List ℕ → List ℕ
+abbrev pub rc4 : List ℕ → List ℕ → List ℕ
 rc4 key text = apply (keySchedule key) text
 
 -- what applying the cipher to a lent text promises: the text afterwards, and the state handed on

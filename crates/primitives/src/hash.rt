@@ -76,7 +76,7 @@ fn least(a: usize, b: usize) -> usize
     if a < b { a } else { b }
 }
 
-// The block with the n octets of `part` from `from` put in at `at`.
+// The block with the n octets of `part` from `from` put in at `at`. A whole block is read without the old one.
 fn fill(block: [u8; 64], at: usize, part: &[u8], from: usize, n: usize) -> [u8; 64]
     requires { ⌜ (at + n ≤ 64) × (from + n ≤ length (now part)) ⌝ }
     ensures { λ r. ⌜ r ≡ paste block at (drop from (now (part .entry))) n ⌝ }
@@ -157,7 +157,7 @@ impl Hash {
         }
     }
 
-    // After a first block.
+    // After a first block, as `new` and `update` would leave it.
     pub fn of_block(algorithm: Algorithm, block: [u8; 64]) -> Self
         ensures { λ r. ⌜ r ≡ Spec.absorb (Spec.begun algorithm) block ⌝ }
     {

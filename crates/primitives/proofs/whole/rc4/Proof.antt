@@ -1,6 +1,6 @@
 -- The key's refusal, the data's, or done with the data under the keystream.
 use mathlib.Core.Path.{_≡_, ap, _∙_}
-use Rattle.primitives.specs.Rc4.{apply, rc4}
+use Rattle.primitives.specs.Rc4.{apply}
 use Rattle.primitives.specs.declared.rc4.Rc4.{Rc4}
 use Rattle.primitives.proofs.whole.Answers.{first-refused, second-decides, begun-status, begun-state, text-refused, text-ciphered}
 use borrow.Author.Needs.{needs}
@@ -19,7 +19,6 @@ returns-2 c =
     (c .enum-told4 .given .1)
 
 returns-3 : tie.Need-returns-3
-unfolding rc4
 returns-3 c =
     let fit = c .before .before .before .before .before in
     let keyed = fit .before .before .before in

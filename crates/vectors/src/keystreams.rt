@@ -50,180 +50,26 @@ fn write_stream(key: &[u8]) {
 }
 
 pub fn run() {
-    write_stream(&[0x01, 0x02, 0x03, 0x04, 0x05]);
-    write_stream(&[0x83, 0x32, 0x22, 0x77, 0x2a]);
-    write_stream(&[0x01, 0x02, 0x03, 0x04, 0x05, 0x06, 0x07]);
-    write_stream(&[0x19, 0x10, 0x83, 0x32, 0x22, 0x77, 0x2a]);
-    write_stream(&[0x01, 0x02, 0x03, 0x04, 0x05, 0x06, 0x07, 0x08]);
-    write_stream(&[0x64, 0x19, 0x10, 0x83, 0x32, 0x22, 0x77, 0x2a]);
-    write_stream(&[0x01, 0x02, 0x03, 0x04, 0x05, 0x06, 0x07, 0x08, 0x09, 0x0a]);
-    write_stream(&[0x8b, 0x37, 0x64, 0x19, 0x10, 0x83, 0x32, 0x22, 0x77, 0x2a]);
+    write_stream(b"\x01\x02\x03\x04\x05");
+    write_stream(b"\x83\x32\x22\x77\x2a");
+    write_stream(b"\x01\x02\x03\x04\x05\x06\x07");
+    write_stream(b"\x19\x10\x83\x32\x22\x77\x2a");
+    write_stream(b"\x01\x02\x03\x04\x05\x06\x07\x08");
+    write_stream(b"\x64\x19\x10\x83\x32\x22\x77\x2a");
+    write_stream(b"\x01\x02\x03\x04\x05\x06\x07\x08\x09\x0a");
+    write_stream(b"\x8b\x37\x64\x19\x10\x83\x32\x22\x77\x2a");
+    write_stream(b"\x01\x02\x03\x04\x05\x06\x07\x08\x09\x0a\x0b\x0c\x0d\x0e\x0f\x10");
+    write_stream(b"\xeb\xb4\x62\x27\xc6\xcc\x8b\x37\x64\x19\x10\x83\x32\x22\x77\x2a");
     write_stream(
-        &[
-            0x01,
-            0x02,
-            0x03,
-            0x04,
-            0x05,
-            0x06,
-            0x07,
-            0x08,
-            0x09,
-            0x0a,
-            0x0b,
-            0x0c,
-            0x0d,
-            0x0e,
-            0x0f,
-            0x10,
-        ],
+        b"\x01\x02\x03\x04\x05\x06\x07\x08\x09\x0a\x0b\x0c\x0d\x0e\x0f\x10\x11\x12\x13\x14\x15\x16\x17\x18",
     );
     write_stream(
-        &[
-            0xeb,
-            0xb4,
-            0x62,
-            0x27,
-            0xc6,
-            0xcc,
-            0x8b,
-            0x37,
-            0x64,
-            0x19,
-            0x10,
-            0x83,
-            0x32,
-            0x22,
-            0x77,
-            0x2a,
-        ],
+        b"\xc1\x09\x16\x39\x08\xeb\xe5\x1d\xeb\xb4\x62\x27\xc6\xcc\x8b\x37\x64\x19\x10\x83\x32\x22\x77\x2a",
     );
     write_stream(
-        &[
-            0x01,
-            0x02,
-            0x03,
-            0x04,
-            0x05,
-            0x06,
-            0x07,
-            0x08,
-            0x09,
-            0x0a,
-            0x0b,
-            0x0c,
-            0x0d,
-            0x0e,
-            0x0f,
-            0x10,
-            0x11,
-            0x12,
-            0x13,
-            0x14,
-            0x15,
-            0x16,
-            0x17,
-            0x18,
-        ],
+        b"\x01\x02\x03\x04\x05\x06\x07\x08\x09\x0a\x0b\x0c\x0d\x0e\x0f\x10\x11\x12\x13\x14\x15\x16\x17\x18\x19\x1a\x1b\x1c\x1d\x1e\x1f\x20",
     );
     write_stream(
-        &[
-            0xc1,
-            0x09,
-            0x16,
-            0x39,
-            0x08,
-            0xeb,
-            0xe5,
-            0x1d,
-            0xeb,
-            0xb4,
-            0x62,
-            0x27,
-            0xc6,
-            0xcc,
-            0x8b,
-            0x37,
-            0x64,
-            0x19,
-            0x10,
-            0x83,
-            0x32,
-            0x22,
-            0x77,
-            0x2a,
-        ],
-    );
-    write_stream(
-        &[
-            0x01,
-            0x02,
-            0x03,
-            0x04,
-            0x05,
-            0x06,
-            0x07,
-            0x08,
-            0x09,
-            0x0a,
-            0x0b,
-            0x0c,
-            0x0d,
-            0x0e,
-            0x0f,
-            0x10,
-            0x11,
-            0x12,
-            0x13,
-            0x14,
-            0x15,
-            0x16,
-            0x17,
-            0x18,
-            0x19,
-            0x1a,
-            0x1b,
-            0x1c,
-            0x1d,
-            0x1e,
-            0x1f,
-            0x20,
-        ],
-    );
-    write_stream(
-        &[
-            0x1a,
-            0xda,
-            0x31,
-            0xd5,
-            0xcf,
-            0x68,
-            0x82,
-            0x21,
-            0xc1,
-            0x09,
-            0x16,
-            0x39,
-            0x08,
-            0xeb,
-            0xe5,
-            0x1d,
-            0xeb,
-            0xb4,
-            0x62,
-            0x27,
-            0xc6,
-            0xcc,
-            0x8b,
-            0x37,
-            0x64,
-            0x19,
-            0x10,
-            0x83,
-            0x32,
-            0x22,
-            0x77,
-            0x2a,
-        ],
+        b"\x1a\xda\x31\xd5\xcf\x68\x82\x21\xc1\x09\x16\x39\x08\xeb\xe5\x1d\xeb\xb4\x62\x27\xc6\xcc\x8b\x37\x64\x19\x10\x83\x32\x22\x77\x2a",
     );
 }

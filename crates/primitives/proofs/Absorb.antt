@@ -3,9 +3,8 @@ use mathlib.Core.Path.{_≡_, refl, sym, ap, ap₂, _∙_}
 use mathlib.Core.Bool.{Bool, cond}
 use mathlib.Core.List.{List, [], _∷_, _++_}
 use Prim.Native.Nat.{ℕ, zero, suc, _+_, _%_, _^_, _≤_, _<_}
-use native.Mathlib.Nat.{mod-add-mod, mod-eq-of-lt, add-zero, add-suc, suc-add}
+use native.Mathlib.Nat.{mod-add-mod, mod-eq-of-lt, add-zero, add-suc}
 use native.Mathlib.Omega.{arith}
-use native.Mathlib.Numerals.{add-one}
 use borrow.Author.Tests.{ne-eqb}
 use lib.Dec.{eqb, eqb·suc-suc}
 use lib.Pow.{mod-mod-pow}
@@ -13,7 +12,6 @@ use lib.ListN.{length, take, set, getD, length-set}
 use lib.Seq.{take-suc, paste, paste-zero, paste-suc}
 use Rattle.primitives.specs.Hash.{compress, put, absorb}
 use Rattle.primitives.specs.declared.hash.Words.{Words}
-use Rattle.primitives.specs.declared.hash.Algorithm.{Algorithm}
 use Rattle.primitives.specs.declared.hash.Hash.{Hash}
 
 pub absorb-append : (h : Hash) (xs ys : List ℕ) → absorb h (xs ++ ys) ≡ absorb (absorb h xs) ys

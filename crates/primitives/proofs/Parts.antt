@@ -11,7 +11,6 @@ use lib.ListN.{length, take, drop, length-append, length-take, length-drop, take
 use lib.Seq.{take-all, take-append-le, drop-append-le, paste}
 use Rattle.primitives.specs.Octets.{joined, littleEndian}
 use Rattle.primitives.specs.Hash.{initial, padding, padded, compress, afterBlocks, output, digest, begun, absorb, absorbEach, finished}
-use Rattle.primitives.specs.declared.hash.Words.{Words}
 use Rattle.primitives.specs.declared.hash.Algorithm.{Algorithm}
 use Rattle.primitives.specs.declared.hash.Hash.{Hash}
 use Rattle.primitives.proofs.Absorb.{Held, absorb-append, absorb-held, absorb-algorithm, absorb-count, absorb-fill}

@@ -1,7 +1,7 @@
 -- Operations in a row: four of them, and four times four.
-use mathlib.Core.Path.{_≡_, refl, sym, ap, _∙_}
+use mathlib.Core.Path.{_≡_, sym, ap, _∙_}
 use mathlib.Core.List.{List}
-use Prim.Native.Nat.{ℕ, zero, suc, _+_}
+use Prim.Native.Nat.{ℕ, suc, _+_}
 use native.Mathlib.Nat.{add-suc, add-assoc}
 use native.Mathlib.Numerals.{add-one}
 use Rattle.primitives.specs.Word.{operations}

@@ -1,7 +1,7 @@
 -- What MD4 and MD5 share of words: RFC 1320 and RFC 1321, sections 2 and 3.4.
 use mathlib.Core.Path.{_≡_}
 use Prim.Native.Nat.{ℕ, zero, suc, _+_, _-_, _*_, _/_, _%_, _^_, _<_}
-use mathlib.Core.List.{List, [], _∷_}
+use mathlib.Core.List.{List}
 use lib.ListN.{length, getD}
 use lib.Bits.{bitAnd, bitOr, bitXor}
 use Rattle.primitives.specs.declared.hash.Words.{Words}

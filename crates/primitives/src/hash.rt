@@ -1,7 +1,7 @@
 // MD4 and MD5 of a message that comes in parts: RFC 1320 and RFC 1321, section 3.
 ghost use mathlib.Core.Path.{_≡_};
 ghost use mathlib.Core.List.{_++_};
-ghost use Prim.Native.Nat.{_+_, _-_, _<_, _≤_, _%_, min};
+ghost use Prim.Native.Nat.{_+_, _-_, _<_, _≤_, min};
 ghost use lib.ListN.{length, take, drop, replicate};
 ghost use lib.Seq.{paste};
 ghost use Rattle.primitives.specs.Hash as Spec;

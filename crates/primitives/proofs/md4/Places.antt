@@ -2,7 +2,7 @@
 use mathlib.Core.Path.{_≡_}
 use Prim.Native.Nat.{ℕ, zero, suc, _+_, _*_, _/_, _%_, _<_}
 use lib.ListN.{getD, take, drop}
-use Rattle.primitives.specs.Md4.{words, shifts}
+use Rattle.primitives.specs.Md4.{words}
 use Rattle.primitives.proofs.Below.{entries, bounded}
 
 abbrev pub placeOf : ℕ → ℕ → ℕ

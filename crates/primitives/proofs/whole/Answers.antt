@@ -1,5 +1,5 @@
 -- The answers of the calls on whole slices, from what is known where each returns.
-use mathlib.Core.Path.{_≡_, refl, sym, ap, ap₂, _∙_}
+use mathlib.Core.Path.{_≡_, refl, sym, ap, _∙_}
 use mathlib.Core.List.{List}
 use Prim.Native.Nat.{ℕ}
 use lib.ListN.{length}
@@ -9,7 +9,6 @@ use Rattle.primitives.specs.Whole.{zerosWith, digestAnswer, rc4Status, C
 use Rattle.primitives.specs.declared.limits.Status.{Status}
 use Rattle.primitives.specs.declared.limits.Status.the-variants.{Done, Length}
 use Rattle.primitives.specs.declared.rc4.Begun.{Begun}
-use Rattle.primitives.specs.declared.rc4.Rc4.{Rc4 as State}
 use Rattle.primitives.specs.declared.whole.Digest.{Digest}
 
 -- what is answered where the status is known

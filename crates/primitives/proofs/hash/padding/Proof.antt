@@ -1,7 +1,7 @@
 -- The octets of the number of bits go in after the zeros.
-use mathlib.Core.Path.{_≡_, refl, sym, ap, _∙_}
+use mathlib.Core.Path.{_≡_, refl, _∙_}
 use mathlib.Core.List.{_∷_}
-use Prim.Native.Nat.{ℕ, _≤_, _-_, _+_}
+use Prim.Native.Nat.{_≤_, _-_, _+_}
 use lib.ListN.{length, replicate}
 use lib.Seq.{paste, paste-zero}
 use Rattle.primitives.proofs.Copy.{copy-more}

@@ -1,7 +1,7 @@
 -- After i turns the block has the first i octets.
 use mathlib.Core.Path.{_≡_, refl, sym, ap, _∙_}
 use mathlib.Core.List.{append-nil}
-use Prim.Native.Nat.{ℕ, _≤_, _-_, _<_}
+use Prim.Native.Nat.{_≤_, _-_, _<_}
 use native.Mathlib.Nat.{zero-add}
 use lib.ListN.{length, drop, take, replicate, length-drop}
 use lib.Seq.{paste, getD-drop}

@@ -1,9 +1,9 @@
 -- After i turns the block has the first i octets of the key.
 use mathlib.Core.Path.{_≡_, refl, sym, ap, ap₂, _∙_}
 use mathlib.Core.List.{List, _++_}
-use Prim.Native.Nat.{ℕ, _≤_, _-_, _<_, _+_}
+use Prim.Native.Nat.{ℕ, _≤_, _-_}
 use native.Mathlib.Nat.{zero-add}
-use lib.ListN.{length, take, drop, replicate}
+use lib.ListN.{length, drop, replicate}
 use lib.Seq.{paste, take-length}
 use Rattle.primitives.specs.Hmac.{filled}
 use Rattle.primitives.proofs.Copy.{copy-more, drop-zeros}

@@ -1,7 +1,6 @@
 -- One operation: the sums in the printed order, and the amount read by round.
-use mathlib.Core.Path.{_≡_, sym, subst, ap, ap₂, _∙_}
-use Prim.Native.Nat.{ℕ, _<_, _+_, _*_, _/_, _%_}
-use lib.ListN.{getD}
+use mathlib.Core.Path.{ap, ap₂, _∙_}
+use Prim.Native.Nat.{ℕ}
 use Rattle.primitives.specs.Word.{add, rotateLeft, wordAt, ByRound}
 use Rattle.primitives.specs.Md4 as Md4
 use Rattle.primitives.specs.declared.hash.Words.{Words}

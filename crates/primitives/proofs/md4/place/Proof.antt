@@ -1,6 +1,6 @@
 -- In each round the place is the one that is printed.
 use mathlib.Core.Path.{_≡_, sym, ap, _∙_, subst}
-use Prim.Native.Nat.{ℕ, _/_, _<_, _%_}
+use Prim.Native.Nat.{ℕ, _/_, _<_}
 use Rattle.primitives.proofs.md4.Places.{placeOf, places, words-below}
 use borrow.Author.Needs.{needs}
 use native.Mathlib.Omega.{arith}

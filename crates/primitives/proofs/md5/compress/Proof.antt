@@ -1,5 +1,5 @@
 -- The words after all rounds, added to those before.
-use mathlib.Core.Path.{_≡_, ap, _∙_}
+use mathlib.Core.Path.{ap, _∙_}
 use Rattle.primitives.specs.Word.{addWords}
 use Rattle.primitives.specs.Md5.{compress}
 use borrow.Author.Needs.{needs}

@@ -1,5 +1,5 @@
 -- Refused with zeros, or done with the digest of the whole.
-use mathlib.Core.Path.{_≡_, ap, _∙_}
+use mathlib.Core.Path.{ap, _∙_}
 use Rattle.primitives.specs.Hash.{absorb, finished}
 use Rattle.primitives.specs.Whole.{digested}
 use Rattle.primitives.specs.declared.hash.Hash.{Hash}

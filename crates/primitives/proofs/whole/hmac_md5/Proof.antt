@@ -1,5 +1,5 @@
 -- The key's refusal, the text's, or done with the HMAC of the whole.
-use mathlib.Core.Path.{_≡_, ap, _∙_}
+use mathlib.Core.Path.{ap, _∙_}
 use Rattle.primitives.specs.Hmac.{absorb, finished}
 use Rattle.primitives.specs.Whole.{authenticated}
 use Rattle.primitives.specs.declared.hmac.Hmac.{Hmac}

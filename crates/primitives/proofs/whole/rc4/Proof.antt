@@ -1,5 +1,5 @@
 -- The key's refusal, the data's, or done with the data under the keystream.
-use mathlib.Core.Path.{_≡_, ap, _∙_}
+use mathlib.Core.Path.{ap, _∙_}
 use Rattle.primitives.specs.Rc4.{apply}
 use Rattle.primitives.specs.declared.rc4.Rc4.{Rc4}
 use Rattle.primitives.proofs.whole.Answers.{first-refused, second-decides, begun-status, begun-state, text-refused, text-ciphered}

@@ -1,5 +1,4 @@
 -- Each word is the sum that `wrapping_add_u32` gives.
-use mathlib.Core.Path.{_≡_}
 use borrow.Author.Needs.{needs}
 use Rattle.primitives.proofs.word.add_words.Statement.{statement}
 use Rattle.primitives.proofs.word.add_words.Tie as tie

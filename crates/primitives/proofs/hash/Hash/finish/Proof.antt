@@ -1,7 +1,7 @@
 -- The first octets of the 72 that are laid out are the padding.
-use mathlib.Core.Path.{_≡_, sym, ap, ap₂, _∙_}
-use mathlib.Core.List.{List, _++_}
-use Prim.Native.Nat.{ℕ, _+_, _-_, _%_}
+use mathlib.Core.Path.{_≡_, ap, ap₂, _∙_}
+use mathlib.Core.List.{List}
+use Prim.Native.Nat.{ℕ, _+_, _-_}
 use lib.ListN.{length, take, replicate, length-take}
 use lib.Seq.{take-at}
 use Rattle.primitives.specs.Hash.{zeros, padding, output, absorb, finished}

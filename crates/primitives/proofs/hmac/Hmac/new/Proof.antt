@@ -1,5 +1,5 @@
 -- Each of the two hashes has absorbed the key's block under its pad.
-use mathlib.Core.Path.{_≡_, ap, ap₂, _∙_}
+use mathlib.Core.Path.{ap, ap₂, _∙_}
 use Rattle.primitives.specs.Hash as Hash
 use Rattle.primitives.specs.Hmac.{begun, xorPad}
 use Rattle.primitives.specs.declared.hash.Algorithm.the-variants.{Md5 as is-md5}

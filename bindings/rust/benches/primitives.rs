@@ -37,22 +37,34 @@ fn octets(len: usize) -> Vec<u8> {
 fn rc4(report: &mut Report) {
     let (key, data) = (octets(16), octets(LARGE));
 
-    let (mut by_library, mut by_rust) = (data.clone(), data.clone());
+    let (mut by_library, mut by_rust, mut ahead) = (data.clone(), data.clone(), data.clone());
     library::rc4(&key, &mut by_library);
     baseline::rc4(&key, &mut by_rust);
-    assert!(by_library == by_rust && by_library != data);
+    baseline::rc4_reading_ahead(&key, &mut ahead);
+    assert!(by_library == by_rust && by_library == ahead && by_library != data);
 
     // Both work on one buffer: what it holds does not matter to the time.
     let data = RefCell::new(data);
-    let times = best_times(
+    let [library, rust, ahead] = best_times(
         ROUNDS,
         1,
         [
             &contender(|| library::rc4(black_box(&key), black_box(&mut data.borrow_mut()))),
             &contender(|| baseline::rc4(black_box(&key), black_box(&mut data.borrow_mut()))),
+            &contender(|| {
+                baseline::rc4_reading_ahead(black_box(&key), black_box(&mut data.borrow_mut()))
+            }),
         ],
     );
-    report.line("RC4 of 32,768 octets, 16-octet key", times, Some(1.0), "");
+    report.line(
+        "RC4 of 32,768 octets, 16-octet key",
+        [library, rust],
+        Some(1.0),
+        &format!(
+            " (Rust reading ahead {ahead:.1} ns, ratio {:.3})",
+            library / ahead
+        ),
+    );
 }
 
 /// One call of `function` over `data`.

@@ -9,7 +9,7 @@ use borrow.Author.Tests.{ne-eqb}
 use lib.Dec.{eqb, eqb·suc-suc}
 use lib.Pow.{mod-mod-pow}
 use lib.ListN.{length, take, set, getD, length-set}
-use lib.Seq.{take-suc, paste, paste-zero, paste-suc}
+use lib.Seq.{take-suc, take-length, paste, paste-zero, paste-suc}
 use Rattle.primitives.specs.Hash.{compress, put, absorb}
 use Rattle.primitives.specs.declared.hash.Words.{Words}
 use Rattle.primitives.specs.declared.hash.Hash.{Hash}
@@ -101,3 +101,10 @@ module _ (h : Hash) (s : List ℕ) (w : Held h) where
       ∙ absorb-append h (take n s) (getD s n 0 ∷ [])
       ∙ ap (λ (t : Hash). put t (getD s n 0)) (absorb-fill n (omega arith) (omega arith) ∙ ap (λ (v : Words). filledTo v n) (not-full n (omega arith)))
       ∙ put-one n (omega arith) (omega arith)
+
+  -- all of them, where they leave room
+  pub absorb-short : h .count % 64 + length s < 64 → absorb h s ≡ filledTo (h .words) (length s)
+  absorb-short room =
+      ap (absorb h) (sym (take-length s))
+      ∙ absorb-fill (length s) (omega arith) (omega arith)
+      ∙ ap (λ (v : Words). filledTo v (length s)) (not-full (length s) room)

@@ -2,6 +2,7 @@
 pub mod Laws
 mod Absorb
 mod Below
+mod Choose
 mod Copy
 mod HmacParts
 mod Keystream

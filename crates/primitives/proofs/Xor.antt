@@ -6,7 +6,7 @@ use native.Mathlib.Omega.{arith}
 use lib.Arith.{bin-ind, digits-div, digits-mod}
 use lib.Bits.{bitXor, differ, xor-step, xor-self}
 
-differ-lt : (x y : ℕ) → x < 2 → y < 2 → differ x y < 2
+pub differ-lt : (x y : ℕ) → x < 2 → y < 2 → differ x y < 2
 differ-lt zero y hx hy = hy
 differ-lt (suc x) zero hx hy = hx
 differ-lt (suc x) (suc y) hx hy = differ-lt x y (omega arith) (omega arith)

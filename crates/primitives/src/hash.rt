@@ -169,8 +169,29 @@ impl Hash {
         }
     }
 
-    // A part more.
+    // A part more. One that leaves room in the block only goes into it, and is spared the way through the loop of blocks.
     pub fn update(self, part: &[u8]) -> Self
+        ensures { λ r. ⌜ r ≡ Spec.absorb self (now (part .entry)) ⌝ }
+    {
+        let algorithm = self.algorithm;
+        let words = self.words;
+        let block = self.block;
+        let count = self.count;
+        let at = (count % 64) as usize;
+        let n = part.len();
+        if n < 64 - at {
+            return Hash {
+                algorithm: algorithm,
+                words: words,
+                block: fill(block, at, part, 0, n),
+                count: wrapping_add_u64(count, n as u64),
+            };
+        }
+        self.update_blocks(part)
+    }
+
+    // A part more: the block is filled as far as it has room, compressed when it is full, and filled again.
+    fn update_blocks(self, part: &[u8]) -> Self
         ensures { λ r. ⌜ r ≡ Spec.absorb self (now (part .entry)) ⌝ }
     {
         let algorithm = self.algorithm;

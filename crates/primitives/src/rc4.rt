@@ -5,6 +5,7 @@ ghost use lib.ListN.{length};
 ghost use Rattle.primitives.specs.Rc4 as Spec;
 use crate::limits;
 use crate::limits::Status;
+use std::num::wrapping_add_u8;
 
 // The octets S and the indices i and j.
 pub struct Rc4 {
@@ -98,29 +99,26 @@ impl Rc4 {
         ensures { λ r. ⌜ Spec.Applied self (now (text .entry)) r (now (text .exit)) ⌝ }
     {
         let mut s = self.s;
-        let mut i = index(self.i);
-        let mut j = index(self.j);
-        let mut a = s[(i + 1) % 256];
+        let mut i = self.i;
+        let mut j = self.j;
+        let mut a = s[index(wrapping_add_u8(i, 1))];
         let mut n: usize = 0;
         while n < text.len() {
-            i = (i + 1) % 256;
-            j = (j + index(a)) % 256;
-            let b = s[j];
-            let ahead = (i + 1) % 256;
-            let c = s[ahead];
-            s[i] = b;
-            s[j] = a;
-            let k = (index(a) + index(b)) % 256;
-            text[n] = text[n] ^ s[k];
+            i = wrapping_add_u8(i, 1);
+            j = wrapping_add_u8(j, a);
+            let p = index(i);
+            let q = index(j);
+            let b = s[q];
+            let ahead = wrapping_add_u8(i, 1);
+            let c = s[index(ahead)];
+            s[p] = b;
+            s[q] = a;
+            text[n] = text[n] ^ s[index(wrapping_add_u8(a, b))];
             if j != ahead {
                 a = c;
             }
             n += 1;
         }
-        Rc4 {
-            s: s,
-            i: i as u8,
-            j: j as u8,
-        }
+        Rc4 { s: s, i: i, j: j }
     }
 }

@@ -13,4 +13,4 @@ mod rc4;
 pub use hmac::hmac_md5;
 pub use md4::md4;
 pub use md5::{md5, md5_table_driven};
-pub use rc4::rc4;
+pub use rc4::{rc4, rc4_reading_ahead};

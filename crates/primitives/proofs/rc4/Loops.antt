@@ -105,16 +105,16 @@ pub record Applying (st : Rc4) (text₀ text s : List ℕ) (i j a n : ℕ) : Typ
   pub state-is : state s i j ≡ after st n
   pub text-is : text ≡ apply st (take n text₀) ++ drop n text₀
 
-pub applying-none : (text s : List ℕ) (i j : ℕ) → length s ≡ 256 → i < 256 → j < 256
-    → Applying (state s i j) text text s i j (getD s ((i + 1) % 256) 0) 0
-applying-none text s i j hs hi hj =
+pub applying-none : (text s : List ℕ) (i j : ℕ) {a : ℕ} → length s ≡ 256 → i < 256 → j < 256 → a ≡ getD s ((i + 1) % 256) 0
+    → Applying (state s i j) text text s i j a 0
+applying-none text s i j hs hi hj ha =
     record {
       within = omega arith;
       text-length = refl;
       s-length = hs;
       i-below = hi;
       j-below = hj;
-      a-is = refl;
+      a-is = ha;
       state-is = sym (after-none (state s i j));
       text-is = rw apply-none;
     }
@@ -191,7 +191,7 @@ module _ {st : Rc4} {text₀ text s : List ℕ} {i j a n : ℕ} (h : Applying st
       ∙ sym (append-snoc front (bitXor x o) rest)
       ∙ ap (λ (l : List ℕ). l ++ rest) (sym more))
 
-  pub applying-more : Applying st text₀ (set text n (bitXor (getD text n 0) (getD (set (set s i' b) j' a) k 0))) (set (set s i' b) j' a) i' j' a' (n + 1)
+  applying-more : Applying st text₀ (set text n (bitXor (getD text n 0) (getD (set (set s i' b) j' a) k 0))) (set (set s i' b) j' a) i' j' a' (n + 1)
   applying-more =
       record {
         within = omega (arith, h .text-length);
@@ -203,6 +203,13 @@ module _ {st : Rc4} {text₀ text s : List ℕ} {i j a n : ℕ} (h : Applying st
         state-is = state-next ∙ sym (after-more st n);
         text-is = text-more _ (ap (bitXor (getD text n 0)) octet-next);
       }
+
+-- the same where the code has i' and j' as the indices p and q
+module _ {st : Rc4} {text₀ text s : List ℕ} {i j a n : ℕ} (h : Applying st text₀ text s i j a n) (lt : n < length text)
+    (i' j' p q b k a' : ℕ) (ei : i' ≡ (i + 1) % 256) (ej : j' ≡ (j + a) % 256) (ep : p ≡ i') (eq : q ≡ j') (eb : b ≡ getD s q 0) (ek : k ≡ (a + b) % 256)
+    (next-a : Ahead s ((i' + 1) % 256) j' a a') where
+  pub applying-indexed : Applying st text₀ (set text n (bitXor (getD text n 0) (getD (set (set s p b) q a) k 0))) (set (set s p b) q a) i' j' a' (n + 1)
+  applying-indexed = rw (ep, eq) (applying-more h lt i' j' b k a' ei ej (eb ∙ ap (λ (x : ℕ). getD s x 0) eq) ek next-a)
 
 pub applying-done : {st : Rc4} {text₀ text s : List ℕ} {i j a n : ℕ} (self : Rc4) → st ≡ self → Applying st text₀ text s i j a n → length text ≤ n
     → Applied self text₀ (state s i j) text

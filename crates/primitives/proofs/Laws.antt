@@ -1,9 +1,9 @@
 -- The laws of this crate's definitions that a crate above may cite.
-use mathlib.Core.Path.{_≡_}
-use mathlib.Core.List.{List, _++_}
-use Prim.Native.Nat.{ℕ, _+_}
+use mathlib.Core.Path.{_≡_, refl}
+use mathlib.Core.List.{List, [], _∷_, _++_}
+use Prim.Native.Nat.{ℕ, _+_, _/_, _%_}
 use lib.ListN.{length}
-use Rattle.primitives.specs.Octets.{Octets, joined}
+use Rattle.primitives.specs.Octets.{Octets, joined, littleEndian}
 use Rattle.primitives.specs.Hash as Hash
 use Rattle.primitives.specs.Hash.{digest}
 use Rattle.primitives.specs.Hmac as Hmac
@@ -17,6 +17,16 @@ use Rattle.primitives.proofs.Absorb as Absorb
 use Rattle.primitives.proofs.Parts as Parts
 use Rattle.primitives.proofs.HmacParts as HmacParts
 use Rattle.primitives.proofs.Keystream as Keystream
+
+-- ---- Numbers as octets
+
+pub little-endian-two : (x : ℕ) → littleEndian 2 x ≡ x % 256 ∷ x / 256 % 256 ∷ []
+unfolding littleEndian
+little-endian-two x = refl
+
+pub little-endian-four : (x : ℕ) → littleEndian 4 x ≡ x % 256 ∷ x / 256 % 256 ∷ x / 256 / 256 % 256 ∷ x / 256 / 256 / 256 % 256 ∷ []
+unfolding littleEndian
+little-endian-four x = refl
 
 -- ---- Digests
 

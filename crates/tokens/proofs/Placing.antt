@@ -1,0 +1,80 @@
+-- Octets placed in a buffer.
+use mathlib.Core.Path.{_≡_, refl, sym, ap, _∙_}
+use mathlib.Core.List.{List, _++_, append-assoc, append-nil}
+use Prim.Native.Nat.{ℕ, _+_, _-_, _≤_}
+use native.Mathlib.Omega.{arith}
+use lib.ListN.{length, take, drop, replicate, length-take, length-drop, take-append-drop, drop-of-length-le, length-replicate, replicate-append-replicate}
+use lib.Seq.{paste, take-at, take-add, take-all, take-length, take-take, drop-append-le, drop-drop}
+use Rattle.tokens.specs.Limits.{region, placed}
+
+-- all of the octets have been copied
+pub pasted : (buf : List ℕ) (at : ℕ) (part : List ℕ) (i : ℕ) → i ≡ length part → paste buf at part i ≡ placed at part buf
+unfolding placed
+pasted buf at part i e = rw (e, take-length part) (append-assoc (take at buf) part (drop (at + length part) buf))
+
+-- a buffer that they fill
+pub placed-all : (buf part : List ℕ) → length buf ≡ length part → placed 0 part buf ≡ part
+unfolding placed
+placed-all buf part e =
+    let past : length buf ≤ 0 + length part = omega arith in
+    rw (drop-of-length-le buf past, append-nil)
+
+-- the first octets of some that are all the same
+pub take-replicate : (n m x : ℕ) → n ≤ m → take n (replicate m x) ≡ replicate n x
+take-replicate n m x h =
+    let all : m ≡ n + (m - n) = omega arith in
+    ap (λ (k : ℕ). take n (replicate k x)) all
+    ∙ ap (take n) (sym (replicate-append-replicate n (m - n) x))
+    ∙ take-at (replicate n x) (replicate (m - n) x) n (length-replicate n x)
+
+-- the n octets of a buffer from `at`, lent as a part, fill an array of n
+module _ (n at : ℕ) (buf : List ℕ) (h : at + n ≤ length buf) where
+  part-length : length (region at (at + n - at) buf) ≡ n
+  part-length = simp (length-take, length-drop) (omega arith)
+
+  pub part-fits : 0 + length (region at (at + n - at) buf) ≤ n
+  part-fits = omega (arith, part-length)
+
+  pub part-whole : (array : List ℕ) → length array ≡ n → placed 0 (region at (at + n - at) buf) array ≡ region at n buf
+  part-whole array e =
+      let back : at + n - at ≡ n = omega arith in
+      placed-all array (region at (at + n - at) buf) (e ∙ sym part-length) ∙ ap (λ (k : ℕ). region at k buf) back
+
+-- ---- Parts of a buffer
+
+-- what stands from an offset on, under what stands before it
+pub placed-under : (at : ℕ) (part buf : List ℕ) → take at buf ++ placed 0 part (drop at buf) ≡ placed at part buf
+unfolding placed
+placed-under at part buf =
+    let whole : 0 + length part ≡ length part = omega arith in
+    rw (whole, drop-drop (length part) at buf)
+
+-- a part that was lent comes back with octets placed in it
+pub placed-within : (start n at : ℕ) (part buf : List ℕ) → start + n ≤ length buf → at + length part ≤ n
+    → take start buf ++ (placed at part (take n (drop start buf)) ++ drop n (drop start buf)) ≡ placed (start + at) part buf
+unfolding placed
+placed-within start n at part buf inside fits =
+    let d = drop start buf in
+    let whole : length (take n d) ≡ n = simp (length-take, length-drop) (omega arith) in
+    let sums : start + (at + length part) ≡ start + at + length part = omega arith in
+    let rest : drop (at + length part) (take n d) ++ drop n d ≡ drop (start + at + length part) buf
+    = sym (drop-append-le (at + length part) (take n d) (drop n d) (omega arith))
+    ∙ ap (drop (at + length part)) (take-append-drop n d)
+    ∙ drop-drop (at + length part) start buf
+    ∙ ap (λ (k : ℕ). drop k buf) sums in
+    rw (
+      take-take at n d (omega arith),
+      append-assoc (take at d) (part ++ drop (at + length part) (take n d)) (drop n d),
+      append-assoc part (drop (at + length part) (take n d)) (drop n d),
+      rest,
+      take-add start at buf,
+      append-assoc (take start buf) (take at d) (part ++ drop (start + at + length part) buf),
+    )
+
+-- or as it was
+pub unchanged-within : (start n : ℕ) (buf : List ℕ) → take start buf ++ (take n (drop start buf) ++ drop n (drop start buf)) ≡ buf
+unchanged-within start n buf = rw (take-append-drop n (drop start buf)) (take-append-drop start buf)
+
+-- the octets of a part that starts inside a buffer and ends with it
+pub rest-of : (at : ℕ) (buf : List ℕ) → take (length buf - at) (drop at buf) ≡ drop at buf
+rest-of at buf = take-all (length buf - at) (drop at buf) (rw length-drop (omega arith))

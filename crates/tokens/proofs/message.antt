@@ -1,0 +1,4 @@
+-- The laws of encrypted messages.
+mod Exactly
+mod Regions
+mod Sealing

@@ -1,0 +1,218 @@
+-- Reading succeeds exactly on what the rule writes: of the octets of an encrypted message, and of a region of a buffer.
+use mathlib.Core.Path.{_≡_, refl, sym, ap, _∙_, subst}
+use mathlib.Core.Bool.{Bool, true, false, _&&_}
+use mathlib.Core.List.{List, [], _∷_, _++_, append-assoc}
+use Prim.Native.Nat.{ℕ, zero, suc, _+_, _-_, _≤_, _<_}
+use native.Mathlib.Omega.{arith}
+use lib.Dec.{leb}
+use lib.ListN.{length, getD, take, drop, length-append, length-take, length-drop, take-append-drop}
+use lib.Seq.{take-at, drop-at, drop-drop, getD-drop, length-take-le}
+use borrow.Author.Tests.{leb-true, le-leb}
+use Rattle.primitives.specs.Octets.{Octets}
+use Rattle.primitives.specs.Rc4.{rc4, keySchedule}
+use Rattle.primitives.proofs.Laws.{apply-length, apply-octets, apply-twice, hmac-length, schedule-octets}
+use Rattle.tokens.specs.Answer.{Outcome, done, refused, require, number, extentNumber, extentOctets, extentAnswer}
+use Rattle.tokens.specs.Limits.{mostMessage, within, inside, region, placed, bufferAfter}
+use Rattle.tokens.specs.Message.{Parts, parts, messageLength, plain, k2, k3, messageChecksum, encrypt, overhead, decrypted, apart, opened, decryption, Written, HandedBack, ReadsExactly}
+use Rattle.tokens.specs.Octets.{same}
+use Rattle.tokens.specs.Usage.{leastUsage, mostUsage, isUsage, typeOctets}
+use Rattle.tokens.specs.declared.answer.Extent.{Extent}
+use Rattle.tokens.specs.declared.answer.Refusal.{Refusal}
+use Rattle.tokens.specs.declared.answer.Refusal.the-variants.{Length, Region, Usage, Checksum}
+use Rattle.tokens.specs.declared.strength.Strength.{Strength}
+use Rattle.tokens.proofs.SameOctets.{same-true, same-self}
+use Rattle.tokens.proofs.Steps.{require-done, done-same, done-told, within-bounds}
+use Rattle.tokens.proofs.message.Sealing.{plain-apart}
+
+octets-take : (n : ℕ) (l : List ℕ) → Octets l → Octets (take n l)
+octets-take zero l h i = omega arith
+octets-take (suc n) [] h i = h i
+octets-take (suc n) (x ∷ l) h zero = h 0
+octets-take (suc n) (x ∷ l) h (suc i) = octets-take n l (λ j. h (suc j)) i
+
+octets-drop : (n : ℕ) (l : List ℕ) → Octets l → Octets (drop n l)
+octets-drop n l h i = rw getD-drop (h (n + i))
+
+apart-plain : (p : Parts) → length (p .confounder) ≡ 8 → apart (plain p) ≡ p
+unfolding plain
+apart-plain p h = λ i. record { confounder = take-at (p .confounder) (p .message) 8 h i; message = drop-at (p .confounder) (p .message) 8 h i }
+
+module _ (key : List ℕ) (strength : Strength) (t : List ℕ) where
+  checksum-length : (text : List ℕ) → length (messageChecksum key strength t text) ≡ 16
+  unfolding messageChecksum
+  checksum-length text = hmac-length (k2 key strength t) text
+
+  pub encrypt-length : (p : Parts) → length (encrypt key strength t p) ≡ 16 + length (plain p)
+  unfolding encrypt
+  encrypt-length p =
+      simp length-append (omega (arith, checksum-length (plain p), apply-length (keySchedule (k3 key strength t (messageChecksum key strength t (plain p)))) (plain p)))
+
+  -- ---- What the rule writes is opened
+
+  encrypt-checksum : (p : Parts) → take 16 (encrypt key strength t p) ≡ messageChecksum key strength t (plain p)
+  unfolding encrypt
+  encrypt-checksum p = take-at (messageChecksum key strength t (plain p)) _ 16 (checksum-length (plain p))
+
+  encrypt-decrypted : (p : Parts) → decrypted key strength t (encrypt key strength t p) ≡ plain p
+  unfolding decrypted encrypt
+  encrypt-decrypted p =
+      let text = plain p in
+      let sum = messageChecksum key strength t text in
+      let st = keySchedule (k3 key strength t sum) in
+      let h = checksum-length text in
+      rw (take-at sum (rc4 (k3 key strength t sum) text) 16 h, drop-at sum (rc4 (k3 key strength t sum) text) 16 h) (apply-twice st text)
+
+  pub encrypted-opens : (p : Parts) → length (p .confounder) ≡ 8 → opened key strength t (encrypt key strength t p) ≡ done p
+  unfolding opened require
+  encrypted-opens p h =
+      rw (encrypt-decrypted p, encrypt-checksum p, same-self (messageChecksum key strength t (plain p))) (ap done (apart-plain p h))
+
+  -- ---- What is opened is what the rule writes
+
+  decrypted-length : (octets : List ℕ) → length (decrypted key strength t octets) ≡ length octets - 16
+  unfolding decrypted
+  decrypted-length octets = apply-length (keySchedule (k3 key strength t (take 16 octets))) (drop 16 octets) ∙ length-drop 16 octets
+
+  decrypted-octets : (octets : List ℕ) → Octets octets → Octets (decrypted key strength t octets)
+  unfolding decrypted
+  decrypted-octets octets h =
+      let k = k3 key strength t (take 16 octets) in
+      apply-octets (keySchedule k) (drop 16 octets) (schedule-octets k) (octets-drop 16 octets h)
+
+  module _ (octets : List ℕ) {p : Parts} (e : opened key strength t octets ≡ done p) where
+    abbrev text : List ℕ
+    text = decrypted key strength t octets
+
+    tests : (same (take 16 octets) (messageChecksum key strength t text) ≡ true) × (done (apart text) ≡ done p)
+    unfolding opened
+    tests = require-done _ _ _ p e
+
+    parts-are : apart text ≡ p
+    parts-are = done-same (tests .1)
+
+    pub opened-length : length (plain p) ≡ length octets - 16
+    opened-length = ap (λ (q : Parts). length (plain q)) (sym parts-are) ∙ ap length (plain-apart text) ∙ decrypted-length octets
+
+    pub opened-message : messageLength p ≡ length octets - 24
+    opened-message = ap messageLength (sym parts-are) ∙ length-drop 8 text ∙ (let h = decrypted-length octets in omega arith)
+
+    pub opened-encrypted : encrypt key strength t p ≡ octets
+    unfolding encrypt decrypted
+    opened-encrypted =
+        let sum = same-true (take 16 octets) _ (tests .0) in
+        let st = keySchedule (k3 key strength t (take 16 octets)) in
+        rw (← parts-are, plain-apart text, ← sum) (rw (apply-twice st (drop 16 octets)) (take-append-drop 16 octets))
+
+    module _ (bytes : Octets octets) (least : 24 ≤ length octets) (most : length octets ≤ 24 + mostMessage) where
+      pub confounder-eight : length (p .confounder) ≡ 8
+      confounder-eight = ap (λ (q : Parts). length (q .confounder)) (sym parts-are) ∙ length-take-le 8 text (omega (arith, decrypted-length octets))
+
+      pub confounder-octets : Octets (p .confounder)
+      confounder-octets = subst (λ (q : Parts). Octets (q .confounder)) parts-are (octets-take 8 text (decrypted-octets octets bytes))
+
+      pub message-octets : Octets (p .message)
+      message-octets = subst (λ (q : Parts). Octets (q .message)) parts-are (octets-drop 8 text (decrypted-octets octets bytes))
+
+      pub message-most : length (p .message) ≤ mostMessage
+      message-most = omega (arith, opened-message)
+
+-- ---- For a usage
+
+module _ (key : List ℕ) (strength : Strength) (usage : ℕ) where
+  pub written-opens : (p : Parts) (octets : List ℕ) → Written key strength usage p octets → opened key strength (typeOctets usage) octets ≡ done p
+  written-opens p octets w = ap (opened key strength (typeOctets usage)) (sym (w .as-written)) ∙ encrypted-opens key strength (typeOctets usage) p (w .confounder-eight)
+
+  pub only-one : (p q : Parts) (octets : List ℕ) → Written key strength usage p octets → Written key strength usage q octets → p ≡ q
+  only-one p q octets v w = done-same (sym (written-opens p octets v) ∙ written-opens q octets w)
+
+  written-length : (p : Parts) (octets : List ℕ) → Written key strength usage p octets → length octets ≡ 24 + length (p .message)
+  unfolding plain
+  written-length p octets w =
+      ap length (sym (w .as-written)) ∙ encrypt-length key strength (typeOctets usage) p ∙ simp length-append (omega (arith, w .confounder-eight))
+
+  -- ---- In a region
+
+  module _ (buf : List ℕ) (start n : ℕ) where
+    abbrev found : Outcome Parts
+    found = decryption key strength usage buf start n
+
+    region-length : start + n ≤ length buf → length (region start n buf) ≡ n
+    region-length h = simp (length-take, length-drop) (omega arith)
+
+    written-found : start + n ≤ length buf → (p : Parts) → Written key strength usage p (region start n buf) → found ≡ done p
+    unfolding decryption require
+    written-found h p w =
+        let l : n ≡ 24 + length (p .message) = sym (region-length h) ∙ written-length p (region start n buf) w in
+        rw (
+          le-leb 24 n (omega arith),
+          le-leb n (24 + mostMessage) (omega (arith, w .message-most)),
+          le-leb (start + n) (length buf) h,
+          le-leb leastUsage usage (w .usage-least),
+          le-leb usage mostUsage (w .usage-most),
+        ) (written-opens p (region start n buf) w)
+
+    found-written : Octets buf → (p : Parts) → found ≡ done p → (start + n ≤ length buf) × Written key strength usage p (region start n buf)
+    unfolding decryption
+    found-written bytes p e =
+        let sized = require-done _ _ _ p e in
+        let fits = require-done _ _ _ p (sized .1) in
+        let named = require-done _ _ _ p (fits .1) in
+        let bounds = within-bounds overhead (overhead + mostMessage) n (sized .0) in
+        let usages = within-bounds leastUsage mostUsage usage (named .0) in
+        let h = leb-true (start + n) (length buf) (fits .0) in
+        let l = region-length h in
+        let octets = octets-take n (drop start buf) (octets-drop start buf bytes) in
+        let least : 24 ≤ length (region start n buf) = omega (arith, bounds .0) in
+        let most : length (region start n buf) ≤ 24 + mostMessage = omega (arith, bounds .1) in (
+          h,
+          record {
+            usage-least = usages .0;
+            usage-most = usages .1;
+            confounder-eight = confounder-eight key strength (typeOctets usage) (region start n buf) (named .1) octets least most;
+            confounder-octets = confounder-octets key strength (typeOctets usage) (region start n buf) (named .1) octets least most;
+            message-most = message-most key strength (typeOctets usage) (region start n buf) (named .1) octets least most;
+            message-octets = message-octets key strength (typeOctets usage) (region start n buf) (named .1) octets least most;
+            as-written = opened-encrypted key strength (typeOctets usage) (region start n buf) (named .1);
+          },
+        )
+
+    handed-back : start + n ≤ length buf → (p : Parts) → Written key strength usage p (region start n buf)
+        → HandedBack p start (extentAnswer messageLength (done p)) (bufferAfter plain (start + 16) buf (done p))
+    unfolding placed plain
+    handed-back h p w =
+        let l : n ≡ 24 + length (p .message) = sym (region-length h) ∙ written-length p (region start n buf) w in
+        let front : length (take (start + 16) buf) ≡ start + 16 = length-take-le (start + 16) buf (omega arith) in
+        let eight = w .confounder-eight in
+        let tail : List ℕ = drop (start + 16 + length (p .confounder ++ p .message)) buf in
+        let at-16 : drop (start + 16) (take (start + 16) buf ++ ((p .confounder ++ p .message) ++ tail)) ≡ p .confounder ++ (p .message ++ tail)
+        = drop-at (take (start + 16) buf) ((p .confounder ++ p .message) ++ tail) (start + 16) front ∙ append-assoc (p .confounder) (p .message) tail in
+        let sums : start + 24 ≡ start + 16 + 8 = omega arith in
+        let at-24 : drop (start + 24) (take (start + 16) buf ++ ((p .confounder ++ p .message) ++ tail)) ≡ p .message ++ tail
+        = ap (λ (k : ℕ). drop k (take (start + 16) buf ++ ((p .confounder ++ p .message) ++ tail))) sums
+        ∙ sym (drop-drop 8 (start + 16) _)
+        ∙ ap (drop 8) at-16
+        ∙ drop-at (p .confounder) (p .message ++ tail) 8 eight in
+        record {
+          done-is = refl;
+          length-is = refl;
+          confounder-stands = ap (take 8) at-16 ∙ take-at (p .confounder) (p .message ++ tail) 8 eight;
+          message-stands = ap (take (length (p .message))) at-24 ∙ take-at (p .message) tail (length (p .message)) refl;
+        }
+
+    -- what the definition gives meets the demand
+    pub reads-exactly : Octets buf → {answer : Extent} {after : List ℕ} → answer ≡ extentAnswer messageLength found → after ≡ bufferAfter plain (start + 16) buf found
+        → ReadsExactly key strength usage buf start n answer after
+    reads-exactly bytes {answer} {after} ea eb =
+        record {
+          only-then = λ z.
+              let d = done-told messageLength found (ap extentNumber (sym ea) ∙ z) in
+              let w = found-written bytes (d .0) (d .1) in
+              (w .0, (d .0, w .1));
+          always-then = λ h p w. rw (ea, eb, written-found h p w) (handed-back h p w);
+          one-set = λ p q. only-one p q (region start n buf);
+        }
+
+    -- the clauses of `decrypt`, of which the third follows from the others
+    pub exact-clauses : Octets buf → {answer : Extent} {after : List ℕ} → answer ≡ extentAnswer messageLength found → after ≡ bufferAfter plain (start + 16) buf found
+        → (answer ≡ extentAnswer messageLength found) × ((after ≡ bufferAfter plain (start + 16) buf found) × ReadsExactly key strength usage buf start n answer after)
+    exact-clauses bytes ea eb = (ea, (eb, reads-exactly bytes ea eb))

@@ -1,0 +1,73 @@
+-- A region of a buffer, written and read through the part that is lent of it.
+use mathlib.Core.Path.{_≡_, refl, sym, ap, _∙_}
+use mathlib.Core.List.{List, _++_}
+use Prim.Native.Nat.{ℕ, _+_, _-_, _≤_}
+use native.Mathlib.Omega.{arith}
+use lib.ListN.{length, take, drop, length-append, length-take, length-drop}
+use lib.Seq.{take-add, drop-at, drop-drop, length-take-le}
+use Rattle.tokens.specs.Answer.{Outcome, done, refused, statusAnswer, extentAnswer}
+use Rattle.tokens.specs.Limits.{region, placed, bufferAfter}
+use Rattle.tokens.specs.Message.{Parts, parts, messageLength, plain, encrypt, opened, written}
+use Rattle.tokens.specs.declared.answer.Extent.{Extent}
+use Rattle.tokens.specs.declared.answer.Extent.the-variants as extent
+use Rattle.tokens.specs.declared.answer.Status.{Status}
+use Rattle.tokens.specs.declared.answer.Status.the-variants.{Done}
+use Rattle.tokens.specs.declared.strength.Strength.{Strength}
+use Rattle.tokens.proofs.Placing.{placed-all, placed-within, unchanged-within}
+use Rattle.tokens.proofs.Steps.{was-done}
+use Rattle.tokens.proofs.message.Exactly.{encrypt-length, opened-length, opened-message}
+
+module _ (key : List ℕ) (strength : Strength) (t : List ℕ) (buf : List ℕ) (start : ℕ) where
+  -- ---- Writing n octets behind 24
+
+  module _ (confounder : List ℕ) (n : ℕ) (eight : length confounder ≡ 8) (inside : start + (24 + n) ≤ length buf) where
+    abbrev p : Parts
+    p = parts confounder (region (start + 24) n buf)
+
+    message-part : drop 24 (take (24 + n) (drop start buf)) ≡ region (start + 24) n buf
+    message-part =
+        let d = drop start buf in
+        let front : length (take 24 d) ≡ 24 = length-take-le 24 d (rw length-drop (omega arith)) in
+        ap (drop 24) (take-add 24 n d) ∙ drop-at (take 24 d) (take n (drop 24 d)) 24 front ∙ ap (take n) (drop-drop 24 start buf)
+
+    pub written-length : length (encrypt key strength t p) ≡ 24 + n
+    unfolding plain
+    written-length =
+        let size : length (region (start + 24) n buf) ≡ n = simp (length-take, length-drop) (omega arith) in
+        encrypt-length key strength t p ∙ simp length-append (omega arith)
+
+    pub written-buffer : {k : ℕ} {after : List ℕ} → k ≡ 24 + n → after ≡ encrypt key strength t (parts confounder (drop 24 (take k (drop start buf))))
+        → take start buf ++ (after ++ drop k (drop start buf)) ≡ placed start (encrypt key strength t p) buf
+    written-buffer {k} {after} e ea =
+        let d = drop start buf in
+        let all = encrypt key strength t p in
+        let after-is : after ≡ all = ea ∙ rw (e, message-part) in
+        let part : length (take (24 + n) d) ≡ length all = simp (length-take, length-drop) (omega (arith, written-length)) in
+        let at : start + 0 ≡ start = omega arith in
+        ap (λ (m : ℕ). take start buf ++ (after ++ drop m d)) e
+        ∙ ap (λ (w : List ℕ). take start buf ++ (w ++ drop (24 + n) d)) (after-is ∙ sym (placed-all (take (24 + n) d) all part))
+        ∙ placed-within start (24 + n) 0 all buf inside (omega (arith, written-length))
+        ∙ ap (λ (s : ℕ). placed s all buf) at
+
+  -- ---- Reading n octets
+
+  module _ (n : ℕ) (inside : start + n ≤ length buf) (least : 24 ≤ n) where
+    abbrev o : Outcome Parts
+    o = opened key strength t (region start n buf)
+
+    region-length : length (region start n buf) ≡ n
+    region-length = simp (length-take, length-drop) (omega arith)
+
+    pub read-buffer : {k : ℕ} {after : List ℕ} → k ≡ n → after ≡ bufferAfter plain 16 (region start k buf) (opened key strength t (region start k buf))
+        → take start buf ++ (after ++ drop k (drop start buf)) ≡ bufferAfter plain (start + 16) buf o
+    read-buffer {k} {after} e ea = rw (ea, e) (within o refl)
+      where
+        within : (x : Outcome Parts) → o ≡ x → take start buf ++ (bufferAfter plain 16 (region start n buf) x ++ drop n (drop start buf)) ≡ bufferAfter plain (start + 16) buf x
+        within (done q) h = placed-within start n 16 (plain q) buf inside (omega (arith, opened-length key strength t (region start n buf) h, region-length))
+        within (refused r) h = unchanged-within start n buf
+
+    pub read-length : {s : Status} → s ≡ statusAnswer o → s ≡ Done → extent.Octets (n - 24) ≡ extentAnswer messageLength o
+    read-length e d =
+        let found = was-done o (sym e ∙ d) in
+        let size : messageLength (found .0) ≡ n - 24 = opened-message key strength t (region start n buf) (found .1) ∙ ap (λ (m : ℕ). m - 24) region-length in
+        rw (found .1, size)

@@ -1,0 +1,142 @@
+-- An encrypted message written and opened as its front and the message after it, from what each step gives.
+use mathlib.Core.Path.{_≡_, refl, sym, ap, ap₂, _∙_}
+use mathlib.Core.Bool.{Bool, true, false}
+use mathlib.Core.List.{List, [], _++_, append-assoc, append-nil}
+use Prim.Native.Nat.{ℕ, _+_, _-_, _≤_}
+use native.Mathlib.Omega.{arith}
+use lib.ListN.{length, take, drop, length-append, length-take, length-drop, take-append-drop, drop-of-length-le}
+use lib.Seq.{take-at, drop-at, take-append-le, drop-append-add, drop-append-le, drop-drop, length-take-le, take-take}
+use Rattle.primitives.specs.Hmac.{hmac}
+use Rattle.primitives.specs.Rc4.{rc4, keySchedule}
+use Rattle.primitives.proofs.Laws.{apply-twice, apply-length}
+use Rattle.tokens.specs.Answer.{Outcome, done, refused, require, tested, statusAnswer}
+use Rattle.tokens.specs.Limits.{region, placed, bufferAfter}
+use Rattle.tokens.specs.Message.{Parts, parts, plain, k1, k2, k3, messageChecksum, encrypt, decrypted, apart, opened}
+use Rattle.tokens.specs.Octets.{same}
+use Rattle.tokens.specs.Strength.{salt, saltAnswer}
+use Rattle.tokens.specs.declared.answer.Refusal.{Refusal}
+use Rattle.tokens.specs.declared.answer.Refusal.the-variants.{Checksum}
+use Rattle.tokens.specs.declared.answer.Status.{Status}
+use Rattle.tokens.specs.declared.answer.Status.the-variants.{Done, Refused}
+use Rattle.tokens.specs.declared.strength.Salt.{Salt}
+use Rattle.tokens.specs.declared.strength.Strength.{Strength}
+use Rattle.tokens.proofs.Placing.{placed-all, placed-under, rest-of}
+use Rattle.tokens.proofs.Steps.{goes-on, stops, status-decided}
+
+-- ---- The salt, from its fourteen octets
+
+module _ (strength : Strength) (t : List ℕ) {s : Salt} (e : s ≡ saltAnswer strength t) where
+  pub salt-fits : s .length ≤ length (s .octets)
+  unfolding saltAnswer
+  salt-fits = rw e (simp length-append (omega arith))
+
+  pub salt-text : take (s .length) (s .octets) ≡ salt strength t
+  unfolding saltAnswer
+  salt-text = rw e (take-at (salt strength t) _ (length (salt strength t)) refl)
+
+-- ---- Plain text apart
+
+pub plain-apart : (text : List ℕ) → plain (apart text) ≡ text
+unfolding plain
+plain-apart text = take-append-drop 8 text
+
+-- ---- The steps
+
+module _ (key : List ℕ) (strength : Strength) (t : List ℕ) where
+  -- what is known when K1, K2 and K3 are there, and confounder and message have been run through RC4
+  pub record Run (sum text : List ℕ) (one two three out : List ℕ) : Type 0 where
+    pub k1-is : one ≡ k1 key strength t
+    pub k2-is : two ≡ k2 key strength t
+    pub k3-is : three ≡ hmac one sum
+    pub run-is : out ≡ rc4 three text
+
+  module _ {sum text one two three out : List ℕ} (g : Run sum text one two three out) where
+    under-k3 : out ≡ rc4 (k3 key strength t sum) text
+    unfolding k3
+    under-k3 = g .run-is ∙ ap (λ (k : List ℕ). rc4 k text) (g .k3-is ∙ ap (λ (k : List ℕ). hmac k sum) (g .k1-is))
+
+  -- the checksum before what the run gave is the encrypted message
+  pub sealed : (confounder message : List ℕ) {sum one two three out : List ℕ} → Run sum (confounder ++ message) one two three out → sum ≡ hmac two (confounder ++ message)
+      → sum ++ out ≡ encrypt key strength t (parts confounder message)
+  unfolding encrypt messageChecksum plain
+  sealed confounder message g e =
+      let sum-is = e ∙ ap (λ (k : List ℕ). hmac k (confounder ++ message)) (g .k2-is) in
+      ap₂ (λ (x y : List ℕ). x ++ y) sum-is (under-k3 g ∙ ap (λ (s : List ℕ). rc4 (k3 key strength t s) (confounder ++ message)) sum-is)
+
+  module _ {sum text one two three out expected : List ℕ} (g : Run sum text one two three out) (sixteen : length sum ≡ 16) (expected-is : expected ≡ hmac two out) where
+    out-is : out ≡ decrypted key strength t (sum ++ text)
+    unfolding decrypted
+    out-is = under-k3 g ∙ rw (take-at sum text 16 sixteen, drop-at sum text 16 sixteen)
+
+    -- what opening decides, by the checksum of what the run gave
+    opened-is : opened key strength t (sum ++ text) ≡ require (same sum expected) Checksum (done (apart out))
+    unfolding opened messageChecksum
+    opened-is = rw (← out-is, take-at sum text 16 sixteen, expected-is, g .k2-is)
+
+    pub opened-status : {s : Status} → s ≡ tested (same sum expected) Checksum → s ≡ statusAnswer (opened key strength t (sum ++ text))
+    opened-status e = status-decided (same sum expected) Checksum (apart out) e opened-is
+
+    pub opened-plain : {s : Status} → s ≡ tested (same sum expected) Checksum → s ≡ Done → out ≡ bufferAfter plain 0 text (opened key strength t (sum ++ text))
+    opened-plain e d =
+        let as-long : length text ≡ length out = sym (ap length (g .run-is) ∙ apply-length (keySchedule three) text) in
+        rw (opened-is, goes-on (same sum expected) Checksum (done (apart out)) e d, plain-apart out) (sym (placed-all text out as-long))
+
+    -- run again, what was refused is back
+    pub opened-restored : {s : Status} {q : Refusal} {back : List ℕ} → s ≡ tested (same sum expected) Checksum → s ≡ Refused q → back ≡ rc4 three out
+        → back ≡ bufferAfter plain 0 text (opened key strength t (sum ++ text))
+    opened-restored {s} {q} {back} e d b =
+        rw (opened-is, stops (same sum expected) Checksum (done (apart out)) e d) (b ∙ ap (rc4 three) (g .run-is) ∙ apply-twice (keySchedule three) text)
+
+-- ---- Over a region
+
+module _ (octets message : List ℕ) (long : 24 ≤ length octets) where
+  abbrev lent : List ℕ
+  lent = take 24 octets ++ (message ++ drop (length octets - 24) (drop 24 octets))
+
+  -- a region of which the message was lent
+  lent-is : lent ≡ take 24 octets ++ message
+  lent-is =
+      let past : length (drop 24 octets) ≤ length octets - 24 = rw length-drop (omega arith) in
+      rw (drop-of-length-le (drop 24 octets) past, append-nil)
+
+  pub front-fits : (n at : ℕ) → at + n ≤ 24 → at + n ≤ length lent
+  front-fits n at h = rw lent-is (simp length-append (omega (arith, length-take-le 24 octets long)))
+
+  -- the message behind its front
+  lent-message : drop 24 lent ≡ message
+  lent-message = rw lent-is (drop-at (take 24 octets) message 24 (length-take-le 24 octets long))
+
+  pub front-placed : (sum confounder : List ℕ) → length sum ≡ 16 → length confounder ≡ 8 → placed 16 confounder (placed 0 sum lent) ≡ sum ++ (confounder ++ message)
+  unfolding placed
+  front-placed sum confounder sixteen eight =
+      let sum-end : 0 + length sum ≡ 16 = omega arith in
+      let end : 16 + length confounder ≡ length sum + 8 = omega arith in
+      rw (sum-end, take-at sum (drop 16 lent) 16 sixteen, end, drop-append-add sum (drop 16 lent) 8, drop-drop 8 16 lent, lent-message)
+
+  pub confounder-placed : (confounder : List ℕ) → length confounder ≡ 8 → placed 16 confounder lent ≡ take 16 octets ++ (confounder ++ message)
+  unfolding placed
+  confounder-placed confounder eight =
+      let end : 16 + length confounder ≡ 24 = omega arith in
+      rw (end, lent-message, lent-is, take-append-le 16 (take 24 octets) message (omega (arith, length-take-le 24 octets long)), take-take 16 24 octets (omega arith))
+
+-- confounder and message of a region afterwards, under the checksum as it came
+region-after : (octets : List ℕ) (o : Outcome Parts) → take 16 octets ++ bufferAfter plain 0 (drop 16 octets) o ≡ bufferAfter plain 16 octets o
+region-after octets (done p) = placed-under 16 (plain p) octets
+region-after octets (refused r) = take-append-drop 16 octets
+
+module _ (key : List ℕ) (strength : Strength) (t octets : List ℕ) {sum confounder : List ℕ} (sum-is : sum ≡ region 0 16 octets) (confounder-is : confounder ≡ region 16 8 octets) where
+  abbrev text : List ℕ
+  text = confounder ++ take (length octets - 24) (drop 24 octets)
+
+  text-is : text ≡ drop 16 octets
+  text-is = rw (confounder-is, rest-of 24 octets, ← drop-drop 8 16 octets) (take-append-drop 8 (drop 16 octets))
+
+  -- the fields of a region are all of it
+  whole : sum ++ text ≡ octets
+  whole = rw (sum-is, text-is) (take-append-drop 16 octets)
+
+  pub read-status : {s : Status} → s ≡ statusAnswer (opened key strength t (sum ++ text)) → s ≡ statusAnswer (opened key strength t octets)
+  read-status e = e ∙ ap (λ (l : List ℕ). statusAnswer (opened key strength t l)) whole
+
+  pub read-octets : {out : List ℕ} → out ≡ bufferAfter plain 0 text (opened key strength t (sum ++ text)) → take 16 octets ++ out ≡ bufferAfter plain 16 octets (opened key strength t octets)
+  read-octets e = rw (e, whole, text-is) (region-after octets (opened key strength t octets))

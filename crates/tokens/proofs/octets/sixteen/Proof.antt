@@ -1,0 +1,21 @@
+-- The octets fill the array.
+use mathlib.Core.Path.{_≡_, ap, sym, _∙_}
+use mathlib.Core.List.{List}
+use Prim.Native.Nat.{ℕ, _+_, _-_}
+use lib.ListN.{length, take, drop, length-take, length-drop}
+use Rattle.tokens.specs.Limits.{region}
+use Rattle.tokens.proofs.Placing.{part-whole, part-fits}
+use borrow.Author.Needs.{needs}
+use Rattle.tokens.proofs.octets.sixteen.Statement.{statement}
+use Rattle.tokens.proofs.octets.sixteen.Tie as tie
+
+place-requires : tie.Need-place-requires
+place-requires c κs = part-fits 16 (c .before .before .before .args .at) (c .before .before .before .args .buf .now) (c .before .before .before .pre)
+
+returns : tie.Need-returns
+returns c =
+    let a = c .before .before .before .before .before .args in
+    c .before .place .ensures ∙ part-whole 16 (a .at) (a .buf .now) (c .before .before .before .before .before .pre) _ (search needs)
+
+pub sixteen-spec : {M : Type 1} → statement M
+sixteen-spec = tie.close (tie.spec (λ c. search needs) (λ c. search needs) (λ c. search needs) (λ c. search needs) (λ c. search needs) place-requires returns)

@@ -1,0 +1,27 @@
+// Why a call is refused, and what the calls answer. `specs/Answer.antt` has the number and the values of each.
+
+// The refusals in the order of their numbers. The first that applies is given.
+pub enum Refusal {
+    Length,
+    Region,
+    Usage,
+    Checksum,
+}
+
+// Whether a step is done.
+pub enum Status {
+    Done,
+    Refused(Refusal),
+}
+
+// A key or a checksum, sixteen zeros with a refusal.
+pub struct Digest {
+    pub status: Status,
+    pub octets: [u8; 16],
+}
+
+// How many octets a call wrote, or found.
+pub enum Extent {
+    Octets(usize),
+    Refused(Refusal),
+}

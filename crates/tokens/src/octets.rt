@@ -1,0 +1,54 @@
+// Octets compared and copied.
+ghost use mathlib.Core.Path.{_≡_};
+ghost use Prim.Native.Nat.{_+_, _≤_};
+ghost use lib.ListN.{length};
+ghost use Rattle.tokens.specs.Limits.{region, placed};
+ghost use Rattle.tokens.specs.Octets as Spec;
+
+// Whether two lists have the same octets. All of them are looked at, whichever differ.
+pub fn same(a: &[u8], b: &[u8]) -> bool
+    ensures { λ r. ⌜ r ≡ Spec.same (now (a .entry)) (now (b .entry)) ⌝ }
+{
+    if a.len() != b.len() {
+        return false;
+    }
+    let mut difference: u8 = 0;
+    let mut i: usize = 0;
+    while i < a.len() {
+        difference = difference | (a[i] ^ b[i]);
+        i += 1;
+    }
+    difference == 0
+}
+
+// Writes the octets of `part` over those of `buf` from `at`.
+pub fn place(buf: &mut [u8], at: usize, part: &[u8])
+    requires { ⌜ at + length (now part) ≤ length (now buf) ⌝ }
+    ensures { λ _. ⌜ now (buf .exit) ≡ placed at (now (part .entry)) (now (buf .entry)) ⌝ }
+{
+    let mut i: usize = 0;
+    while i < part.len() {
+        buf[at + i] = part[i];
+        i += 1;
+    }
+}
+
+// The eight octets of `buf` from `at`.
+pub fn eight(buf: &[u8], at: usize) -> [u8; 8]
+    requires { ⌜ at + 8 ≤ length (now buf) ⌝ }
+    ensures { λ r. ⌜ r ≡ region at 8 (now (buf .entry)) ⌝ }
+{
+    let mut octets = [0u8; 8];
+    place(&mut octets, 0, &buf[at..at + 8]);
+    octets
+}
+
+// The sixteen octets of `buf` from `at`.
+pub fn sixteen(buf: &[u8], at: usize) -> [u8; 16]
+    requires { ⌜ at + 16 ≤ length (now buf) ⌝ }
+    ensures { λ r. ⌜ r ≡ region at 16 (now (buf .entry)) ⌝ }
+{
+    let mut octets = [0u8; 16];
+    place(&mut octets, 0, &buf[at..at + 16]);
+    octets
+}

@@ -1,2 +1,3 @@
 -- What the contracts of the C interface cite.
 pub mod Primitives
+pub mod Messages

@@ -1,18 +1,17 @@
 -- The encrypted message: RFC 4757, section 5. The rule that writes one, what reading one gives, and that reading succeeds exactly
 -- on what the rule writes.
-use Prim.Native.Nat.{ℕ, _+_, _≤_, _<_}
+use Prim.Native.Nat.{ℕ, _+_, _≤_}
 use mathlib.Core.Path.{_≡_}
 use mathlib.Core.List.{List, _++_}
 use lib.ListN.{length, take, drop}
 use Rattle.primitives.specs.Octets.{Octets}
 use Rattle.primitives.specs.Hmac.{hmac}
 use Rattle.primitives.specs.Rc4.{rc4}
-use Rattle.tokens.specs.Answer.{Outcome, done, require, extentNumber, extentOctets}
+use Rattle.tokens.specs.Answer.{Outcome, done, require}
 use Rattle.tokens.specs.Limits.{mostMessage, within, inside, region}
 use Rattle.tokens.specs.Octets.{same}
 use Rattle.tokens.specs.Strength.{salt, exportFill}
 use Rattle.tokens.specs.Usage.{leastUsage, mostUsage, isUsage, typeOctets}
-use Rattle.tokens.specs.declared.answer.Extent.{Extent}
 use Rattle.tokens.specs.declared.answer.Refusal.the-variants.{Length, Region, Usage, Checksum}
 use Rattle.tokens.specs.declared.strength.Strength.{Strength}
 
@@ -112,17 +111,18 @@ pub record Written (key : List ℕ) (strength : Strength) (usage : ℕ) (p : Par
   pub message-octets : Octets (p .message)
   pub as-written : encrypt key strength (typeOctets usage) p ≡ octets
 
--- The answer is done with the message's length, and in the buffer the confounder stands at octets 16 to 23 of the region and the
--- message from octet 24.
-pub record HandedBack (p : Parts) (start : ℕ) (answer : Extent) (after : List ℕ) : Type 0 where
-  pub done-is : extentNumber answer ≡ 0
-  pub length-is : extentOctets answer ≡ length (p .message)
+-- The number is that of done, the answered length is the message's, and in the buffer the confounder stands at octets 16 to 23 of
+-- the region and the message from octet 24.
+pub record HandedBack (p : Parts) (start : ℕ) (number answered : ℕ) (after : List ℕ) : Type 0 where
+  pub done-is : number ≡ 0
+  pub length-is : answered ≡ length (p .message)
   pub confounder-stands : region (start + 16) 8 after ≡ p .confounder
   pub message-stands : region (start + 24) (length (p .message)) after ≡ p .message
 
--- Reading succeeds exactly when the region lies inside the buffer and the rule writes some parts as exactly the region's octets:
--- only then, and always then. There is one such set of parts, and it is handed back.
-pub record ReadsExactly (key : List ℕ) (strength : Strength) (usage : ℕ) (buf : List ℕ) (start n : ℕ) (answer : Extent) (after : List ℕ) : Type 0 where
-  pub only-then : extentNumber answer ≡ 0 → (start + n ≤ length buf) × ((p : Parts) × Written key strength usage p (region start n buf))
-  pub always-then : start + n ≤ length buf → (p : Parts) → Written key strength usage p (region start n buf) → HandedBack p start answer after
+-- Reading the region of n octets from start answers a number and a length, and leaves the buffer as `after`. It succeeds exactly
+-- when the region lies inside the buffer and the rule writes some parts as exactly the region's octets: only then, and always
+-- then. There is one such set of parts, and it is handed back.
+pub record ReadsExactly (key : List ℕ) (strength : Strength) (usage : ℕ) (buf : List ℕ) (start n : ℕ) (number answered : ℕ) (after : List ℕ) : Type 0 where
+  pub only-then : number ≡ 0 → (start + n ≤ length buf) × ((p : Parts) × Written key strength usage p (region start n buf))
+  pub always-then : start + n ≤ length buf → (p : Parts) → Written key strength usage p (region start n buf) → HandedBack p start number answered after
   pub one-set : (p q : Parts) → Written key strength usage p (region start n buf) → Written key strength usage q (region start n buf) → p ≡ q

@@ -3,7 +3,7 @@ ghost use mathlib.Core.Path.{_≡_};
 ghost use mathlib.Core.List.{_++_};
 ghost use Prim.Native.Nat.{_+_, _≤_};
 ghost use lib.ListN.{length, drop};
-ghost use Rattle.tokens.specs.Answer.{statusAnswer, extentAnswer};
+ghost use Rattle.tokens.specs.Answer.{statusAnswer, extentAnswer, extentNumber, extentOctets};
 ghost use Rattle.tokens.specs.Limits.{bufferAfter};
 ghost use Rattle.tokens.specs.Message as Spec;
 use crate::answer::Extent;
@@ -183,7 +183,7 @@ pub fn decrypt(
 ) -> Extent
     ensures answer { λ r. ⌜ r ≡ extentAnswer Spec.messageLength (Spec.decryption key strength usage (now (buf .entry)) start len) ⌝ }
     ensures buffer { λ _. ⌜ now (buf .exit) ≡ bufferAfter Spec.plain (start + 16) (now (buf .entry)) (Spec.decryption key strength usage (now (buf .entry)) start len) ⌝ }
-    ensures exact { λ r. ⌜ Spec.ReadsExactly key strength usage (now (buf .entry)) start len r (now (buf .exit)) ⌝ }
+    ensures exact { λ r. ⌜ Spec.ReadsExactly key strength usage (now (buf .entry)) start len (extentNumber r) (extentOctets r) (now (buf .exit)) ⌝ }
 {
     let sized = checks::length(OVERHEAD, OVERHEAD + limits::MOST_MESSAGE, len);
     let Status::Done = sized else {

@@ -177,7 +177,7 @@ module _ (key : List ℕ) (strength : Strength) (usage : ℕ) where
         )
 
     handed-back : start + n ≤ length buf → (p : Parts) → Written key strength usage p (region start n buf)
-        → HandedBack p start (extentAnswer messageLength (done p)) (bufferAfter plain (start + 16) buf (done p))
+        → HandedBack p start 0 (messageLength p) (bufferAfter plain (start + 16) buf (done p))
     unfolding placed plain
     handed-back h p w =
         let l : n ≡ 24 + length (p .message) = sym (region-length h) ∙ written-length p (region start n buf) w in
@@ -201,7 +201,7 @@ module _ (key : List ℕ) (strength : Strength) (usage : ℕ) where
 
     -- what the definition gives meets the demand
     pub reads-exactly : Octets buf → {answer : Extent} {after : List ℕ} → answer ≡ extentAnswer messageLength found → after ≡ bufferAfter plain (start + 16) buf found
-        → ReadsExactly key strength usage buf start n answer after
+        → ReadsExactly key strength usage buf start n (extentNumber answer) (extentOctets answer) after
     reads-exactly bytes {answer} {after} ea eb =
         record {
           only-then = λ z.
@@ -214,5 +214,5 @@ module _ (key : List ℕ) (strength : Strength) (usage : ℕ) where
 
     -- the clauses of `decrypt`, of which the third follows from the others
     pub exact-clauses : Octets buf → {answer : Extent} {after : List ℕ} → answer ≡ extentAnswer messageLength found → after ≡ bufferAfter plain (start + 16) buf found
-        → (answer ≡ extentAnswer messageLength found) × ((after ≡ bufferAfter plain (start + 16) buf found) × ReadsExactly key strength usage buf start n answer after)
+        → (answer ≡ extentAnswer messageLength found) × ((after ≡ bufferAfter plain (start + 16) buf found) × ReadsExactly key strength usage buf start n (extentNumber answer) (extentOctets answer) after)
     exact-clauses bytes ea eb = (ea, (eb, reads-exactly bytes ea eb))

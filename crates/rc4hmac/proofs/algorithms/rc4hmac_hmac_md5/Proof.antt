@@ -1,7 +1,7 @@
 -- What is handed out is the answer of the call on whole slices.
 use borrow.Author.Needs.{needs}
-use Rattle.rc4hmac.proofs.rc4hmac_hmac_md5.Statement.{statement}
-use Rattle.rc4hmac.proofs.rc4hmac_hmac_md5.Tie as tie
+use Rattle.rc4hmac.proofs.algorithms.rc4hmac_hmac_md5.Statement.{statement}
+use Rattle.rc4hmac.proofs.algorithms.rc4hmac_hmac_md5.Tie as tie
 
 returns : tie.Need-returns
 returns c = rw (c .before .before .hmac-md5 .ensures) at (c .hand-out .ensures)

@@ -2,8 +2,8 @@
 use mathlib.Core.Path.{ap, _∙_}
 use Rattle.primitives.specs.Limits.{number}
 use borrow.Author.Needs.{needs}
-use Rattle.rc4hmac.proofs.rc4hmac_rc4.Statement.{statement}
-use Rattle.rc4hmac.proofs.rc4hmac_rc4.Tie as tie
+use Rattle.rc4hmac.proofs.algorithms.rc4hmac_rc4.Statement.{statement}
+use Rattle.rc4hmac.proofs.algorithms.rc4hmac_rc4.Tie as tie
 
 returns : tie.Need-returns
 returns c =

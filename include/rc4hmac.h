@@ -1,5 +1,6 @@
-/* The C interface of librc4hmac.a: MD4, MD5, HMAC-MD5 and RC4 over octets in
- * memory, for x86-64 Linux. */
+/* The C interface of librc4hmac.a: the keys, checksums and encrypted messages
+ * of RC4-HMAC (RFC 4757), and MD4, MD5, HMAC-MD5 and RC4 under them, over
+ * octets in memory, for x86-64 Linux. */
 
 #ifndef RC4HMAC_H
 #define RC4HMAC_H
@@ -11,18 +12,25 @@
 extern "C" {
 #endif
 
-/* Every function answers a refusal number. With a refusal the digest written
- * is 16 zeros, and no octet of lent data is changed.
+/* Every function answers a refusal number, the lowest that applies. With a
+ * refusal every digest, key, checksum and length written is zero, and no octet
+ * of lent data is changed.
  *
  * Assumed of a caller:
- *   - a pointer is followed by as many octets as its length says; it may be
- *     null, or point nowhere, only where the length is 0;
- *   - a digest pointer is never null, and 16 octets may be written there;
+ *   - a pointer with a length beside it is followed by as many octets, or
+ *     16-bit units, as the length says; it may be null, or point nowhere, only
+ *     where the length is 0;
+ *   - a key, a confounder, a digest or a checksum of a fixed length, and a
+ *     pointer to a length to be written, is never null and has its full size;
+ *   - units and lengths to be written are aligned as their types ask;
  *   - the areas lent to one call do not overlap. */
 
 /* Refusal numbers. */
-#define RC4HMAC_DONE 0u           /* no refusal: the work is done */
-#define RC4HMAC_REFUSED_LENGTH 1u /* a length is outside its limits */
+#define RC4HMAC_DONE 0u             /* no refusal: the work is done */
+#define RC4HMAC_REFUSED_LENGTH 1u   /* a length is outside its limits */
+#define RC4HMAC_REFUSED_REGION 2u   /* the region is not inside the buffer */
+#define RC4HMAC_REFUSED_USAGE 3u    /* the usage is not 1 to 15 */
+#define RC4HMAC_REFUSED_CHECKSUM 6u /* the checksum differs */
 
 /* Lengths and limits, in octets. A limit is the last length let in. */
 #define RC4HMAC_DIGEST_LEN 16u
@@ -32,6 +40,33 @@ extern "C" {
 #define RC4HMAC_RC4_KEY_MIN 1u
 #define RC4HMAC_RC4_KEY_MAX 256u
 #define RC4HMAC_RC4_DATA_MAX 65536u
+#define RC4HMAC_KEY_LEN 16u
+#define RC4HMAC_CHECKSUM_LEN 16u
+#define RC4HMAC_CONFOUNDER_LEN 8u
+#define RC4HMAC_PASSWORD_UNITS_MAX 256u /* 16-bit units, not octets */
+#define RC4HMAC_MESSAGE_MAX 32768u
+#define RC4HMAC_ENCRYPTED_OVERHEAD 24u /* the checksum and the confounder */
+#define RC4HMAC_ENCRYPTED_MIN 24u
+#define RC4HMAC_ENCRYPTED_MAX 32792u
+
+/* Usages, by their numbers in RFC 4757, section 3. The message type T is the
+ * usage's number, but usages 3 and 9 have T = 8, as usage 8 has: each of the
+ * three opens the others' messages and passes the others' checksums. */
+#define RC4HMAC_USAGE_AS_REQ_PA_ENC_TIMESTAMP 1u
+#define RC4HMAC_USAGE_AS_REP_TGS_REP_TICKET 2u
+#define RC4HMAC_USAGE_AS_REP_ENCRYPTED_PART 3u
+#define RC4HMAC_USAGE_TGS_REQ_AUTHORIZATION_DATA_SESSION_KEY 4u
+#define RC4HMAC_USAGE_TGS_REQ_AUTHORIZATION_DATA_SUBKEY 5u
+#define RC4HMAC_USAGE_TGS_REQ_AUTHENTICATOR_CKSUM 6u
+#define RC4HMAC_USAGE_TGS_REQ_AUTHENTICATOR 7u
+#define RC4HMAC_USAGE_TGS_REP_ENCRYPTED_PART_SESSION_KEY 8u
+#define RC4HMAC_USAGE_TGS_REP_ENCRYPTED_PART_SUBKEY 9u
+#define RC4HMAC_USAGE_AP_REQ_AUTHENTICATOR_CKSUM 10u
+#define RC4HMAC_USAGE_AP_REQ_AUTHENTICATOR 11u
+#define RC4HMAC_USAGE_AP_REP_ENCRYPTED_PART 12u
+#define RC4HMAC_USAGE_KRB_PRIV_ENCRYPTED_PART 13u
+#define RC4HMAC_USAGE_KRB_CRED_ENCRYPTED_PART 14u
+#define RC4HMAC_USAGE_KRB_SAFE_CKSUM 15u
 
 /* The MD4 digest (RFC 1320) of 0 to RC4HMAC_DIGEST_DATA_MAX octets. */
 uint32_t rc4hmac_md4(const uint8_t *data, size_t data_len, uint8_t digest[16]);
@@ -50,6 +85,44 @@ uint32_t rc4hmac_hmac_md5(const uint8_t *key, size_t key_len,
  * same call encrypts and decrypts. */
 uint32_t rc4hmac_rc4(const uint8_t *key, size_t key_len,
                      uint8_t *data, size_t data_len);
+
+/* The key of a password (RFC 4757, section 2) of 0 to
+ * RC4HMAC_PASSWORD_UNITS_MAX UTF-16 units, without a closing zero. */
+uint32_t rc4hmac_password_key(const uint16_t *units, size_t units_len,
+                              uint8_t key[16]);
+
+/* The keyed checksum (RFC 4757, section 4) of 0 to RC4HMAC_MESSAGE_MAX octets
+ * for a usage. */
+uint32_t rc4hmac_checksum(const uint8_t key[16], uint32_t usage,
+                          const uint8_t *data, size_t data_len,
+                          uint8_t checksum[16]);
+
+/* Whether `checksum` is the keyed checksum of the data, by the answer: done,
+ * or RC4HMAC_REFUSED_CHECKSUM. A checksum that is not RC4HMAC_CHECKSUM_LEN
+ * octets long is refused for its length. */
+uint32_t rc4hmac_checksum_test(const uint8_t key[16], uint32_t usage,
+                               const uint8_t *data, size_t data_len,
+                               const uint8_t *checksum, size_t checksum_len);
+
+/* Encrypts a message (RFC 4757, section 5) in place. The data, 0 to
+ * RC4HMAC_MESSAGE_MAX octets, stand RC4HMAC_ENCRYPTED_OVERHEAD octets after
+ * `start`; the region from `start` to their end becomes the checksum, the
+ * confounder and the data, the latter two encrypted, and its length is written
+ * to `written`. `export_strength` is 0 for no and anything else for yes. Each
+ * message needs a confounder of its own, of random octets. */
+uint32_t rc4hmac_encrypt(const uint8_t key[16], uint32_t export_strength,
+                         uint32_t usage, const uint8_t confounder[8],
+                         uint8_t *buf, size_t buf_len,
+                         size_t start, size_t data_len, size_t *written);
+
+/* Decrypts a message in place: the region of `length` octets at `start`,
+ * RC4HMAC_ENCRYPTED_MIN to RC4HMAC_ENCRYPTED_MAX of them, keeps its checksum
+ * and has the confounder (from its octet 16) and the data (from its octet 24)
+ * plain. The data's length is written to `data_len`. */
+uint32_t rc4hmac_decrypt(const uint8_t key[16], uint32_t export_strength,
+                         uint32_t usage,
+                         uint8_t *buf, size_t buf_len,
+                         size_t start, size_t length, size_t *data_len);
 
 #ifdef __cplusplus
 }

@@ -1,5 +1,6 @@
-//! The limits of lengths, in octets: the last length that is let in, or the
-//! first where the name ends in `MIN`. Without a `MIN` the first is 0.
+//! The limits of lengths, in octets if not said otherwise: the last length that
+//! is let in, or the first where the name ends in `MIN`. Without a `MIN` the
+//! first is 0.
 
 /// The most octets that [`md4`](crate::md4) and [`md5`](crate::md5) digest.
 pub const DIGEST_DATA_MAX: usize = 65_536;
@@ -18,3 +19,18 @@ pub const RC4_KEY_MAX: usize = 256;
 
 /// The most octets that [`rc4`](crate::rc4) takes at once.
 pub const RC4_DATA_MAX: usize = 65_536;
+
+/// The longest password of [`password_key`](crate::password_key), in 16-bit
+/// units.
+pub const PASSWORD_UNITS_MAX: usize = 256;
+
+/// The most octets that [`checksum`](crate::checksum) and
+/// [`checksum_test`](crate::checksum_test) take, and that
+/// [`encrypt`](crate::encrypt) puts in a message.
+pub const MESSAGE_MAX: usize = 32_768;
+
+/// The shortest message of [`decrypt`](crate::decrypt).
+pub const ENCRYPTED_MIN: usize = 24;
+
+/// The longest message of [`decrypt`](crate::decrypt).
+pub const ENCRYPTED_MAX: usize = 32_792;

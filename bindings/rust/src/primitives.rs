@@ -1,7 +1,6 @@
 //! MD4, MD5, HMAC-MD5 and RC4 as safe functions.
 
-use std::borrow::Cow;
-
+use crate::lent::apart_from;
 use crate::{raw, Refusal, DIGEST_LEN};
 
 /// The MD4 digest (RFC 1320) of at most
@@ -49,7 +48,7 @@ pub fn md5(data: &[u8]) -> Result<[u8; DIGEST_LEN], Refusal> {
 /// [`Refusal::Length`] for a longer key or text.
 #[inline]
 pub fn hmac_md5(key: &[u8], text: &[u8]) -> Result<[u8; DIGEST_LEN], Refusal> {
-    let key = apart_from(text, key);
+    let key = apart_from(&[text], key);
     let mut digest = [0; DIGEST_LEN];
     // SAFETY: `key` and `text` are slices that share no octet, `digest` is
     // writable and is lent to nothing else.
@@ -82,16 +81,4 @@ pub fn rc4(key: &[u8], data: &mut [u8]) -> Result<(), Refusal> {
     let answer =
         unsafe { raw::rc4hmac_rc4(key.as_ptr(), key.len(), data.as_mut_ptr(), data.len()) };
     Refusal::check(answer)
-}
-
-/// `area`, or a copy of it where it shares octets with `other`: shared borrows
-/// may overlap, the areas lent to one call may not.
-#[inline]
-fn apart_from<'a>(other: &[u8], area: &'a [u8]) -> Cow<'a, [u8]> {
-    let (theirs, ours) = (other.as_ptr_range(), area.as_ptr_range());
-    if ours.start < theirs.end && theirs.start < ours.end {
-        Cow::Owned(area.to_vec())
-    } else {
-        Cow::Borrowed(area)
-    }
 }

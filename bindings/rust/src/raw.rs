@@ -1,14 +1,16 @@
 //! The functions of the archive as C sees them, in `include/rc4hmac.h`.
 //!
-//! Each answers a refusal number, 0 when done. With a refusal the digest
-//! written is 16 zeros, and no octet of lent data is changed.
+//! Each answers a refusal number, the lowest that applies, 0 when done. With a
+//! refusal every digest, key, checksum and length written is zero, and no octet
+//! of lent data is changed.
 //!
 //! # Safety
 //!
-//! For every function here: a pointer is followed by as many octets as its
-//! length says, and may be null or dangling only where that length is 0; a
-//! digest pointer is valid for writing 16 octets; the areas lent to one call
-//! do not overlap.
+//! For every function here: a pointer with a length beside it is followed by
+//! as many octets, or 16-bit units, as the length says, and may be null or
+//! dangling only where that length is 0; a pointer to an array is valid for all
+//! its octets, and one to a length is valid for writing it; units and lengths
+//! are aligned; the areas lent to one call do not overlap.
 
 extern "C" {
     /// The MD4 digest of `data`.
@@ -28,4 +30,53 @@ extern "C" {
 
     /// Combines `data`, in place, with the RC4 keystream of `key`.
     pub fn rc4hmac_rc4(key: *const u8, key_len: usize, data: *mut u8, data_len: usize) -> u32;
+
+    /// The key of the password `units`.
+    pub fn rc4hmac_password_key(units: *const u16, units_len: usize, key: *mut [u8; 16]) -> u32;
+
+    /// The keyed checksum of `data`.
+    pub fn rc4hmac_checksum(
+        key: *const [u8; 16],
+        usage: u32,
+        data: *const u8,
+        data_len: usize,
+        checksum: *mut [u8; 16],
+    ) -> u32;
+
+    /// Whether `checksum` is the keyed checksum of `data`.
+    pub fn rc4hmac_checksum_test(
+        key: *const [u8; 16],
+        usage: u32,
+        data: *const u8,
+        data_len: usize,
+        checksum: *const u8,
+        checksum_len: usize,
+    ) -> u32;
+
+    /// Encrypts the `data_len` octets that stand 24 after `start`, and writes
+    /// the message's length.
+    pub fn rc4hmac_encrypt(
+        key: *const [u8; 16],
+        export_strength: u32,
+        usage: u32,
+        confounder: *const [u8; 8],
+        buf: *mut u8,
+        buf_len: usize,
+        start: usize,
+        data_len: usize,
+        written: *mut usize,
+    ) -> u32;
+
+    /// Decrypts the message of `length` octets at `start`, and writes the
+    /// data's length.
+    pub fn rc4hmac_decrypt(
+        key: *const [u8; 16],
+        export_strength: u32,
+        usage: u32,
+        buf: *mut u8,
+        buf_len: usize,
+        start: usize,
+        length: usize,
+        data_len: *mut usize,
+    ) -> u32;
 }

@@ -9,6 +9,13 @@ use std::fmt;
 pub enum Refusal {
     /// A length is outside its [limits](crate::limits).
     Length,
+    /// The named region does not lie inside the lent buffer.
+    Region,
+    /// The usage is not 1 to 15. A [`Usage`](crate::Usage) always is: only
+    /// the functions of [`raw`](crate::raw) can meet this.
+    Usage,
+    /// The checksum differs.
+    Checksum,
     /// A number that this binding has no name for. The archive of the same
     /// version answers none; a later one might.
     Unnamed(u32),
@@ -19,6 +26,9 @@ impl Refusal {
     pub fn number(self) -> u32 {
         match self {
             Refusal::Length => 1,
+            Refusal::Region => 2,
+            Refusal::Usage => 3,
+            Refusal::Checksum => 6,
             Refusal::Unnamed(number) => number,
         }
     }
@@ -28,6 +38,9 @@ impl Refusal {
         match number {
             0 => Ok(()),
             1 => Err(Refusal::Length),
+            2 => Err(Refusal::Region),
+            3 => Err(Refusal::Usage),
+            6 => Err(Refusal::Checksum),
             _ => Err(Refusal::Unnamed(number)),
         }
     }
@@ -37,6 +50,9 @@ impl fmt::Display for Refusal {
     fn fmt(&self, f: &mut fmt::Formatter<'_>) -> fmt::Result {
         match self {
             Refusal::Length => f.write_str("a length is outside its limits"),
+            Refusal::Region => f.write_str("the region does not lie inside the buffer"),
+            Refusal::Usage => f.write_str("the usage is not 1 to 15"),
+            Refusal::Checksum => f.write_str("the checksum differs"),
             Refusal::Unnamed(number) => write!(f, "refusal number {number}"),
         }
     }
@@ -54,14 +70,21 @@ mod tests {
     }
 
     #[test]
-    fn number_1_is_the_refusal_of_a_length() {
-        assert_eq!(Refusal::check(1), Err(Refusal::Length));
-        assert_eq!(Refusal::Length.number(), 1);
+    fn a_number_with_a_name_becomes_that_refusal_and_back() {
+        for (number, refusal) in [
+            (1, Refusal::Length),
+            (2, Refusal::Region),
+            (3, Refusal::Usage),
+            (6, Refusal::Checksum),
+        ] {
+            assert_eq!(Refusal::check(number), Err(refusal));
+            assert_eq!(refusal.number(), number);
+        }
     }
 
     #[test]
     fn a_number_without_a_name_is_kept_as_it_is() {
-        for number in [8, 256, u32::MAX] {
+        for number in [4, 5, 7, 8, 256, u32::MAX] {
             let refusal = Refusal::check(number).unwrap_err();
             assert_eq!(refusal, Refusal::Unnamed(number));
             assert_eq!(refusal.number(), number);

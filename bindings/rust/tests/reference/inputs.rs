@@ -38,6 +38,15 @@ impl Inputs {
     pub fn octets(&mut self, len: usize) -> Vec<u8> {
         (0..len).map(|_| (self.next() >> 24) as u8).collect()
     }
+
+    /// A key, a confounder or a checksum.
+    pub fn array<const LEN: usize>(&mut self) -> [u8; LEN] {
+        std::array::from_fn(|_| (self.next() >> 24) as u8)
+    }
+
+    pub fn units(&mut self, len: usize) -> Vec<u16> {
+        (0..len).map(|_| (self.next() >> 16) as u16).collect()
+    }
 }
 
 /// The octets 0, 1, 2, ... 255, 0, 1, ...

@@ -1,18 +1,29 @@
-//! The second program: MD4, MD5, HMAC-MD5 and RC4 written from their published
-//! texts alone, for the library to be compared with, and the inputs for that.
+//! The second program: MD4, MD5, HMAC-MD5, RC4 and the keys, checksums and
+//! encrypted messages of RFC 4757 written from their published texts alone, for
+//! the library to be compared with, and the inputs for that.
 
 // Each test file uses its own share of this module.
 #![allow(dead_code, unused_imports)]
 
+mod checksum;
 mod hmac;
 mod inputs;
 mod md4;
 mod md5;
+mod message;
+pub mod outcomes;
 mod padding;
+mod password;
 mod rc4;
+mod usage;
 
+pub use checksum::checksum;
 pub use hmac::hmac_md5;
 pub use inputs::{counting, Inputs};
 pub use md4::md4;
 pub use md5::md5;
+pub use message::{Terms, HEADER};
+pub use outcomes::{must_be_octets, Outcome};
+pub use password::password_key;
 pub use rc4::rc4;
+pub use usage::{message_type, salt, USAGES};

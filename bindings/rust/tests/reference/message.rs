@@ -1,0 +1,63 @@
+//! Encrypted messages, from RFC 4757, section 5.
+
+use super::usage::{salt, USAGES};
+use super::{hmac_md5, rc4, Inputs};
+
+/// The octets of the checksum, and of the checksum and the confounder.
+const CHECKSUM: usize = 16;
+pub const HEADER: usize = 24;
+
+/// Whose message it is, apart from its confounder and its data.
+#[derive(Clone, Copy, PartialEq)]
+pub struct Terms {
+    pub key: [u8; 16],
+    pub export: bool,
+    pub usage: u32,
+}
+
+impl Terms {
+    /// Both strengths with every usage, each under a key of its own.
+    pub fn all(inputs: &mut Inputs) -> Vec<Terms> {
+        [false, true]
+            .into_iter()
+            .flat_map(|export| USAGES.map(move |usage| (export, usage)))
+            .map(|(export, usage)| Terms {
+                key: inputs.array(),
+                export,
+                usage,
+            })
+            .collect()
+    }
+
+    /// For messages of a test.
+    pub fn name(&self) -> (&'static str, u32) {
+        (if self.export { "export" } else { "full" }, self.usage)
+    }
+
+    /// K1 and K2.
+    fn keys(&self) -> ([u8; 16], [u8; 16]) {
+        let k2 = hmac_md5(&self.key, &salt(self.export, self.usage));
+        let mut k1 = k2;
+        if self.export {
+            k1[7..].fill(0xab);
+        }
+        (k1, k2)
+    }
+
+    /// The message: the checksum, then confounder and data under one stream.
+    pub fn encrypt(&self, confounder: &[u8; 8], data: &[u8]) -> Vec<u8> {
+        let (k1, k2) = self.keys();
+        let plain = [confounder, data].concat();
+        let checksum = hmac_md5(&k2, &plain);
+        let k3 = hmac_md5(&k1, &checksum);
+        [&checksum[..], &rc4(&k3, &plain)].concat()
+    }
+
+    /// The confounder and the data, if the checksum is theirs.
+    pub fn decrypt(&self, message: &[u8]) -> Option<Vec<u8>> {
+        let (k1, k2) = self.keys();
+        let (checksum, secret) = message.split_at(CHECKSUM);
+        let plain = rc4(&hmac_md5(&k1, checksum), secret);
+        (hmac_md5(&k2, &plain) == checksum).then_some(plain)
+    }
+}

@@ -1,0 +1,150 @@
+//! Which refusal is given where several apply: the lowest number, for every
+//! set of faults. Each call leaves every octet and writes zeros.
+
+mod calls;
+mod reference;
+
+use reference::{must_be_octets, Inputs, Outcome, Terms, HEADER};
+
+/// Every set of `N` faults, each there or not.
+fn fault_sets<const N: usize>() -> impl Iterator<Item = [bool; N]> {
+    (0..1 << N).map(|set: u32| std::array::from_fn(|fault| set >> fault & 1 == 1))
+}
+
+/// The number of the first fault that is there.
+fn first<const N: usize>(numbers: [u32; N], faults: [bool; N]) -> u32 {
+    let mut numbers = numbers.into_iter().zip(faults);
+    numbers
+        .find(|(_, there)| *there)
+        .map_or(0, |(number, _)| number)
+}
+
+const WRONG_USAGES: [u32; 4] = [0, 16, 256, u32::MAX];
+
+#[test]
+fn a_checksum_is_refused_for_its_length_before_its_usage() {
+    let mut inputs = Inputs::new(131);
+    let (key, data) = (inputs.array(), inputs.octets(32_769));
+    for wrong_usage in WRONG_USAGES {
+        for faults @ [length, usage] in fault_sets() {
+            let data = &data[..if length { 32_769 } else { 32_768 }];
+            let usage = if usage { wrong_usage } else { 4 };
+            let (number, checksum) = calls::checksum(&key, usage, data);
+            let expected = first([1, 3], faults);
+            assert_eq!(number, expected, "{faults:?}, {usage}");
+            if expected != 0 {
+                assert_eq!(checksum, [0; 16], "{faults:?}, {usage}");
+            }
+        }
+    }
+}
+
+#[test]
+fn a_checksum_test_is_refused_for_lengths_then_usage_then_checksum() {
+    let mut inputs = Inputs::new(132);
+    let (key, data) = (inputs.array(), inputs.octets(32_769));
+    for wrong_usage in WRONG_USAGES {
+        for wrong_len in [0, 1, 15, 17, 32] {
+            for faults @ [length, checksum_length, usage, damage] in fault_sets() {
+                let data = &data[..if length { 32_769 } else { 30 }];
+                let right = reference::checksum(&key, 4, data);
+                let mut checksum = [right, right].concat();
+                checksum[0] ^= u8::from(damage);
+                checksum.truncate(if checksum_length { wrong_len } else { 16 });
+                let usage = if usage { wrong_usage } else { 4 };
+                let number = calls::checksum_test(&key, usage, data, &checksum);
+                let expected = first([1, 1, 3, 6], faults);
+                assert_eq!(number, expected, "{faults:?}, {usage}, {wrong_len}");
+            }
+        }
+    }
+}
+
+/// Regions past the end of a buffer of 40,000 octets, or round the largest
+/// number.
+const WRONG_STARTS: [usize; 5] = [
+    40_000,
+    40_001,
+    usize::MAX,
+    usize::MAX - 23,
+    usize::MAX - 32_791,
+];
+
+#[test]
+fn encrypt_is_refused_for_length_then_region_then_usage() {
+    let mut inputs = Inputs::new(133);
+    let (key, confounder, buf) = (inputs.array(), inputs.array(), inputs.octets(40_000));
+    for wrong_len in [32_769, 100_000, usize::MAX - 24, usize::MAX] {
+        for (wrong_start, wrong_usage) in WRONG_STARTS.into_iter().zip(WRONG_USAGES.repeat(2)) {
+            for faults @ [length, region, usage] in fault_sets() {
+                let data_len = if length { wrong_len } else { 40 };
+                let start = if region { wrong_start } else { 5 };
+                let usage = if usage { wrong_usage } else { 4 };
+                let export = wrong_len % 2 == 0;
+                let terms = Terms { key, export, usage };
+                let outcome = calls::encrypt(&terms, &confounder, &buf, start, data_len);
+                let what = (faults, start, data_len, usage);
+                match first([1, 2, 3], faults) {
+                    0 => assert_eq!((outcome.number, outcome.len), (0, 64), "{what:?}"),
+                    number => outcome.must_be(&Outcome::refused(number, &buf), what),
+                }
+            }
+        }
+    }
+}
+
+#[test]
+fn decrypt_is_refused_for_length_then_region_then_usage_then_checksum() {
+    let mut inputs = Inputs::new(134);
+    let (key, data) = (inputs.array(), inputs.octets(40));
+    for wrong_len in [0, 23, 32_793, usize::MAX - 5, usize::MAX] {
+        for (wrong_start, wrong_usage) in WRONG_STARTS.into_iter().zip(WRONG_USAGES.repeat(2)) {
+            for faults @ [length, region, usage, damage] in fault_sets() {
+                let export = wrong_len % 2 == 0;
+                let usage_there = if usage { wrong_usage } else { 4 };
+                let writer = Terms {
+                    key,
+                    export,
+                    usage: 4,
+                };
+                let mut buf = inputs.octets(40_000);
+                let message = writer.encrypt(&inputs.array(), &data);
+                buf[5..][..64].copy_from_slice(&message);
+                buf[40] ^= u8::from(damage);
+
+                let length = if length { wrong_len } else { 64 };
+                let start = if region { wrong_start } else { 5 };
+                let reader = Terms {
+                    usage: usage_there,
+                    ..writer
+                };
+                let outcome = calls::decrypt(&reader, &buf, start, length);
+                let what = (faults, start, length, usage_there);
+                match first([1, 2, 3, 6], faults) {
+                    0 => {
+                        assert_eq!((outcome.number, outcome.len), (0, 40), "{what:?}");
+                        must_be_octets(&outcome.buf[5 + HEADER..][..40], &data, what);
+                    }
+                    number => outcome.must_be(&Outcome::refused(number, &buf), what),
+                }
+            }
+        }
+    }
+}
+
+/// The example of the rules: a too-long message in a region that does not fit.
+#[test]
+fn a_too_long_message_that_does_not_fit_is_refused_with_1() {
+    let terms = Terms {
+        key: [7; 16],
+        export: false,
+        usage: 0,
+    };
+    let buf = [0x5a; 100];
+    let outcome = calls::encrypt(&terms, &[1; 8], &buf, 90, 32_769);
+    outcome.must_be(&Outcome::refused(1, &buf), "encrypt");
+    let outcome = calls::decrypt(&terms, &buf, 90, 32_793);
+    outcome.must_be(&Outcome::refused(1, &buf), "decrypt, too long");
+    let outcome = calls::decrypt(&terms, &buf, 90, 23);
+    outcome.must_be(&Outcome::refused(1, &buf), "decrypt, too short");
+}

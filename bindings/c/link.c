@@ -1,5 +1,6 @@
-/* Links librc4hmac.a from C: one published vector and one refusal of each
- * function of rc4hmac.h. */
+/* Links librc4hmac.a from C: one vector and one refusal of each function of
+ * rc4hmac.h. A vector whose source is not named was computed with OpenSSL (RC4)
+ * and Python (MD5, HMAC). */
 
 #include <stdio.h>
 #include <string.h>
@@ -129,12 +130,196 @@ static void check_rc4(void)
               && all_are(data, sizeof data, 0x5a));
 }
 
+static void check_password_key(void)
+{
+    /* RFC 4757, section 2. */
+    static const uint16_t units[] = { 'f', 'o', 'o' };
+    static const uint8_t expected[RC4HMAC_KEY_LEN] = {
+        0xac, 0x8e, 0x65, 0x7f, 0x83, 0xdf, 0x82, 0xbe,
+        0xea, 0x5d, 0x43, 0xbd, 0xaf, 0x78, 0x00, 0xcc
+    };
+    static const uint16_t too_many[RC4HMAC_PASSWORD_UNITS_MAX + 1u];
+    uint8_t key[RC4HMAC_KEY_LEN];
+    uint32_t answer;
+
+    memset(key, 0xee, sizeof key);
+    answer = rc4hmac_password_key(units, 3, key);
+    check("key of the password \"foo\"",
+          answer == RC4HMAC_DONE && memcmp(key, expected, sizeof key) == 0);
+
+    answer = rc4hmac_password_key(too_many, RC4HMAC_PASSWORD_UNITS_MAX + 1u,
+                                  key);
+    check("a password one unit too long is refused",
+          answer == RC4HMAC_REFUSED_LENGTH && all_are(key, sizeof key, 0));
+}
+
+/* MIT krb5, src/lib/crypto/crypto_tests/t_cksums.c. */
+static const uint8_t checksum_key[RC4HMAC_KEY_LEN] = {
+    0xf7, 0xd3, 0xa1, 0x55, 0xaf, 0x5e, 0x23, 0x8a,
+    0x0b, 0x7a, 0x87, 0x1a, 0x96, 0xba, 0x2a, 0xb2
+};
+static const char checksum_data[] = "seventeen eighteen nineteen twenty";
+static const uint8_t checksum_expected[RC4HMAC_CHECKSUM_LEN] = {
+    0xeb, 0x38, 0xcc, 0x97, 0xe2, 0x23, 0x0f, 0x59,
+    0xda, 0x41, 0x17, 0xdc, 0x58, 0x59, 0xd7, 0xec
+};
+
+static void check_checksum(void)
+{
+    const uint8_t *data = (const uint8_t *)checksum_data;
+    uint8_t checksum[RC4HMAC_CHECKSUM_LEN];
+    uint32_t answer;
+
+    memset(checksum, 0xee, sizeof checksum);
+    answer = rc4hmac_checksum(checksum_key,
+                              RC4HMAC_USAGE_TGS_REQ_AUTHENTICATOR_CKSUM,
+                              data, sizeof checksum_data - 1, checksum);
+    check("keyed checksum",
+          answer == RC4HMAC_DONE
+              && memcmp(checksum, checksum_expected, sizeof checksum) == 0);
+
+    answer = rc4hmac_checksum(checksum_key, 16,
+                              data, sizeof checksum_data - 1, checksum);
+    check("a checksum for usage 16 is refused",
+          answer == RC4HMAC_REFUSED_USAGE
+              && all_are(checksum, sizeof checksum, 0));
+}
+
+static void check_checksum_test(void)
+{
+    const uint8_t *data = (const uint8_t *)checksum_data;
+    uint8_t checksum[RC4HMAC_CHECKSUM_LEN];
+    uint32_t answer;
+
+    memcpy(checksum, checksum_expected, sizeof checksum);
+    answer = rc4hmac_checksum_test(checksum_key,
+                                   RC4HMAC_USAGE_TGS_REQ_AUTHENTICATOR_CKSUM,
+                                   data, sizeof checksum_data - 1,
+                                   checksum, sizeof checksum);
+    check("keyed checksum passes", answer == RC4HMAC_DONE);
+
+    checksum[15] ^= 0x80;
+    answer = rc4hmac_checksum_test(checksum_key,
+                                   RC4HMAC_USAGE_TGS_REQ_AUTHENTICATOR_CKSUM,
+                                   data, sizeof checksum_data - 1,
+                                   checksum, sizeof checksum);
+    check("a damaged checksum is refused",
+          answer == RC4HMAC_REFUSED_CHECKSUM);
+}
+
+static void check_encrypt(void)
+{
+    static const uint8_t key[RC4HMAC_KEY_LEN] = {
+        0, 1, 2, 3, 4, 5, 6, 7, 8, 9, 10, 11, 12, 13, 14, 15
+    };
+    static const uint8_t confounder[RC4HMAC_CONFOUNDER_LEN] = {
+        0xc0, 0xc1, 0xc2, 0xc3, 0xc4, 0xc5, 0xc6, 0xc7
+    };
+    static const uint8_t expected[RC4HMAC_ENCRYPTED_OVERHEAD + 4u] = {
+        0x37, 0xee, 0x78, 0x8d, 0x78, 0x44, 0x12, 0x82,
+        0x33, 0x08, 0xe3, 0x74, 0xb6, 0x0d, 0x21, 0x0b,
+        0x1d, 0xea, 0xc4, 0xfb, 0xf3, 0xa2, 0x9b, 0xf3,
+        0x80, 0x1e, 0x8f, 0x0e
+    };
+    uint8_t buf[sizeof expected];
+    size_t written = 99;
+    uint32_t answer;
+
+    memset(buf, 0x5a, sizeof buf);
+    memcpy(buf + RC4HMAC_ENCRYPTED_OVERHEAD, "kiln", 4);
+    answer = rc4hmac_encrypt(key, 1, RC4HMAC_USAGE_KRB_PRIV_ENCRYPTED_PART,
+                             confounder, buf, sizeof buf, 0, 4, &written);
+    check("message of \"kiln\", export strength",
+          answer == RC4HMAC_DONE && written == sizeof expected
+              && memcmp(buf, expected, sizeof buf) == 0);
+
+    memset(buf, 0x5a, sizeof buf);
+    answer = rc4hmac_encrypt(key, 1, RC4HMAC_USAGE_KRB_PRIV_ENCRYPTED_PART,
+                             confounder, buf, sizeof buf, 1, 4, &written);
+    check("a region one octet past the buffer is refused",
+          answer == RC4HMAC_REFUSED_REGION && written == 0
+              && all_are(buf, sizeof buf, 0x5a));
+}
+
+static void check_decrypt(void)
+{
+    /* MIT krb5, src/lib/crypto/crypto_tests/t_decrypt.c. */
+    static const uint8_t key[RC4HMAC_KEY_LEN] = {
+        0x3e, 0x40, 0xab, 0x60, 0x93, 0x69, 0x52, 0x81,
+        0xb3, 0xac, 0x1a, 0x93, 0x04, 0x22, 0x4d, 0x98
+    };
+    static const uint8_t message[RC4HMAC_ENCRYPTED_OVERHEAD + 9u] = {
+        0x0f, 0x9a, 0xd1, 0x21, 0xd9, 0x9d, 0x4a, 0x09,
+        0x44, 0x8e, 0x4f, 0x1f, 0x71, 0x8c, 0x4f, 0x5c,
+        0xbe, 0x60, 0x96, 0x26, 0x2c, 0x66, 0xf2, 0x9d,
+        0xf2, 0x32, 0xa8, 0x7c, 0x9f, 0x98, 0x75, 0x5d, 0x55
+    };
+    uint8_t buf[sizeof message];
+    uint8_t before[sizeof message];
+    size_t data_len = 99;
+    uint32_t answer;
+
+    memcpy(before, message, sizeof before);
+    before[sizeof before - 1] ^= 1;
+    memcpy(buf, before, sizeof buf);
+    answer = rc4hmac_decrypt(key, 0, RC4HMAC_USAGE_AS_REP_TGS_REP_TICKET,
+                             buf, sizeof buf, 0, sizeof buf, &data_len);
+    check("a damaged message is refused and left",
+          answer == RC4HMAC_REFUSED_CHECKSUM && data_len == 0
+              && memcmp(buf, before, sizeof buf) == 0);
+
+    memcpy(buf, message, sizeof buf);
+    answer = rc4hmac_decrypt(key, 0, RC4HMAC_USAGE_AS_REP_TGS_REP_TICKET,
+                             buf, sizeof buf, 0, sizeof buf, &data_len);
+    check("message of \"9 bytesss\" opens",
+          answer == RC4HMAC_DONE && data_len == 9
+              && memcmp(buf, message, RC4HMAC_CHECKSUM_LEN) == 0
+              && memcmp(buf + RC4HMAC_ENCRYPTED_OVERHEAD, "9 bytesss", 9) == 0);
+}
+
+/* The message stands between octets that are no part of it. */
+static void check_round_trip(uint32_t export_strength, const char *what)
+{
+    static const uint8_t key[RC4HMAC_KEY_LEN] = { 7 };
+    static const uint8_t confounder[RC4HMAC_CONFOUNDER_LEN] = { 1 };
+    static const char data[] = "a record";
+    uint8_t buf[100];
+    size_t written = 99, data_len = 99;
+    uint32_t encrypted, decrypted;
+
+    memset(buf, 0x5a, sizeof buf);
+    memcpy(buf + 30 + RC4HMAC_ENCRYPTED_OVERHEAD, data, sizeof data);
+    encrypted = rc4hmac_encrypt(key, export_strength,
+                                RC4HMAC_USAGE_AS_REP_ENCRYPTED_PART,
+                                confounder, buf, sizeof buf,
+                                30, sizeof data, &written);
+    decrypted = rc4hmac_decrypt(key, export_strength,
+                                RC4HMAC_USAGE_AS_REP_ENCRYPTED_PART,
+                                buf, sizeof buf, 30, written, &data_len);
+    check(what,
+          encrypted == RC4HMAC_DONE && decrypted == RC4HMAC_DONE
+              && written == RC4HMAC_ENCRYPTED_OVERHEAD + sizeof data
+              && data_len == sizeof data
+              && memcmp(buf + 30 + RC4HMAC_CHECKSUM_LEN, confounder, 8) == 0
+              && memcmp(buf + 30 + RC4HMAC_ENCRYPTED_OVERHEAD, data,
+                        sizeof data) == 0
+              && all_are(buf, 30, 0x5a)
+              && all_are(buf + 30 + written, sizeof buf - 30 - written, 0x5a));
+}
+
 int main(void)
 {
     check_md4();
     check_md5();
     check_hmac_md5();
     check_rc4();
+    check_password_key();
+    check_checksum();
+    check_checksum_test();
+    check_encrypt();
+    check_decrypt();
+    check_round_trip(0, "round trip, full strength");
+    check_round_trip(1, "round trip, export strength");
 
     if (failed != 0) {
         printf("c: %u checks failed, %u passed\n", failed, passed);

@@ -158,6 +158,8 @@ fn checksums_take_a_key_data_and_a_checksum_that_share_octets() {
         ] {
             let expected = reference::checksum(key, 15, data);
             assert_eq!(rc4hmac::checksum(key, usage, data), Ok(expected));
+            let answer = rc4hmac::checksum_test(key, usage, data, &expected);
+            assert_eq!(answer, Ok(()));
             for checksum in [key, &octets[..16], &octets[key_start / 2..][..16]] {
                 let answer = rc4hmac::checksum_test(key, usage, data, checksum);
                 assert_eq!(answer, Err(Refusal::Checksum));

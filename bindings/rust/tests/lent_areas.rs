@@ -1,11 +1,12 @@
 //! What the library does to the areas lent to it and to the octets around
 //! them: alignment, guard octets, unmapped pages, empty areas, threads.
 
+mod areas;
 mod reference;
 
-use std::ptr;
 use std::thread;
 
+use areas::{empty_pointers, Guarded, Walled, SIDES};
 use rc4hmac::raw;
 use reference::Inputs;
 
@@ -19,48 +20,6 @@ const DIGESTS: [(RawDigest, Digest); 2] = [
 
 /// Lengths below, at and over a block, with and without a block of padding.
 const LENS: [usize; 12] = [0, 1, 3, 16, 55, 56, 63, 64, 65, 127, 128, 1000];
-
-const GUARD: usize = 64;
-
-/// An area whose octets start at a chosen alignment, with guard octets on both
-/// sides, all pseudo-random.
-struct Guarded {
-    octets: Vec<u8>,
-    start: usize,
-    len: usize,
-    alignment: usize,
-}
-
-impl Guarded {
-    fn new(inputs: &mut Inputs, len: usize, alignment: usize) -> Guarded {
-        let octets = inputs.octets(GUARD + 16 + len + GUARD);
-        let at = octets.as_ptr() as usize + GUARD;
-        let start = GUARD + (16 + alignment - at % 16) % 16;
-        Guarded {
-            octets,
-            start,
-            len,
-            alignment,
-        }
-    }
-
-    fn ptr(&mut self) -> *mut u8 {
-        let ptr = self.octets[self.start..].as_mut_ptr();
-        assert_eq!(ptr as usize % 16, self.alignment);
-        ptr
-    }
-
-    fn lent(&self) -> &[u8] {
-        &self.octets[self.start..][..self.len]
-    }
-
-    /// All octets, with `area` in the place of the lent ones.
-    fn with(&self, area: &[u8]) -> Vec<u8> {
-        let mut octets = self.octets.clone();
-        octets[self.start..][..self.len].copy_from_slice(area);
-        octets
-    }
-}
 
 #[test]
 fn digests_at_every_alignment_are_right_and_no_octet_beside_them_changes() {
@@ -181,16 +140,6 @@ fn refusals_change_no_octet_beside_the_lent_areas() {
     }
 }
 
-/// Pointers that may stand for an empty area, none of them to be followed.
-fn empty_pointers() -> [*mut u8; 4] {
-    [
-        ptr::null_mut(),
-        ptr::dangling_mut(),
-        ptr::without_provenance_mut(0x1000 - 1),
-        ptr::without_provenance_mut(usize::MAX),
-    ]
-}
-
 #[test]
 fn digests_of_empty_data_are_right_whatever_the_pointer() {
     for (function, reference) in DIGESTS {
@@ -236,92 +185,10 @@ fn rc4_with_empty_data_is_done_and_with_an_empty_key_refused_whatever_the_pointe
     }
 }
 
-/// An area of memory between two pages that cannot be read: a step outside
-/// ends the test by a signal.
-mod walled {
-    use std::ffi::{c_int, c_long, c_void};
-    use std::{ptr, slice};
-
-    // The C library that the standard library is linked with.
-    extern "C" {
-        fn mmap(
-            at: *mut c_void,
-            len: usize,
-            protection: c_int,
-            flags: c_int,
-            file: c_int,
-            offset: c_long,
-        ) -> *mut c_void;
-        fn mprotect(at: *mut c_void, len: usize, protection: c_int) -> c_int;
-        fn munmap(at: *mut c_void, len: usize) -> c_int;
-    }
-
-    const PROT_NONE: c_int = 0;
-    const PROT_READ_WRITE: c_int = 1 | 2;
-    const MAP_PRIVATE_ANONYMOUS: c_int = 0x02 | 0x20;
-    const PAGE: usize = 4096;
-
-    pub struct Walled {
-        map: *mut u8,
-        len: usize,
-    }
-
-    impl Walled {
-        /// `len` is in whole pages.
-        pub fn new(len: usize) -> Walled {
-            assert_eq!(len % PAGE, 0);
-            // SAFETY: a new mapping touches nothing that is there already.
-            unsafe {
-                let whole = len + 2 * PAGE;
-                let map = mmap(
-                    ptr::null_mut(),
-                    whole,
-                    PROT_NONE,
-                    MAP_PRIVATE_ANONYMOUS,
-                    -1,
-                    0,
-                );
-                assert_ne!(map as isize, -1);
-                assert_eq!(mprotect(map.byte_add(PAGE), len, PROT_READ_WRITE), 0);
-                Walled {
-                    map: map.cast(),
-                    len,
-                }
-            }
-        }
-
-        fn area(&mut self) -> &mut [u8] {
-            // SAFETY: these pages are mapped, zeroed and owned.
-            unsafe { slice::from_raw_parts_mut(self.map.add(PAGE), self.len) }
-        }
-
-        /// The octets right behind the first wall.
-        pub fn first(&mut self, len: usize) -> &mut [u8] {
-            &mut self.area()[..len]
-        }
-
-        /// The octets right before the last wall.
-        pub fn last(&mut self, len: usize) -> &mut [u8] {
-            let start = self.len - len;
-            &mut self.area()[start..]
-        }
-    }
-
-    impl Drop for Walled {
-        fn drop(&mut self) {
-            // SAFETY: the mapping of `new`, no longer borrowed.
-            unsafe { munmap(self.map.cast(), self.len + 2 * PAGE) };
-        }
-    }
-}
-
-type Side = fn(&mut walled::Walled, usize) -> &mut [u8];
-const SIDES: [Side; 2] = [walled::Walled::first, walled::Walled::last];
-
 #[test]
 fn digests_reach_no_octet_outside_the_lent_data_and_the_digest() {
     let mut inputs = Inputs::new(46);
-    let (mut data_map, mut digest_map) = (walled::Walled::new(65_536), walled::Walled::new(4096));
+    let (mut data_map, mut digest_map) = (Walled::new(65_536), Walled::new(4096));
     for (function, reference) in DIGESTS {
         for side in SIDES {
             for len in (0..=200).chain([4095, 4096, 4097, 65_535, 65_536]) {
@@ -340,7 +207,7 @@ fn digests_reach_no_octet_outside_the_lent_data_and_the_digest() {
 #[test]
 fn hmac_md5_reaches_no_octet_outside_the_key_and_the_text() {
     let mut inputs = Inputs::new(47);
-    let (mut key_map, mut text_map) = (walled::Walled::new(65_536), walled::Walled::new(65_536));
+    let (mut key_map, mut text_map) = (Walled::new(65_536), Walled::new(65_536));
     for side in SIDES {
         for (key_len, text_len) in (0..=130)
             .map(|len| (len, 130 - len))
@@ -358,7 +225,7 @@ fn hmac_md5_reaches_no_octet_outside_the_key_and_the_text() {
 #[test]
 fn rc4_reaches_no_octet_outside_the_key_and_the_data() {
     let mut inputs = Inputs::new(48);
-    let (mut key_map, mut data_map) = (walled::Walled::new(4096), walled::Walled::new(65_536));
+    let (mut key_map, mut data_map) = (Walled::new(4096), Walled::new(65_536));
     for side in SIDES {
         for (key_len, data_len) in
             (1..=256)

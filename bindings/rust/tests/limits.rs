@@ -1,4 +1,5 @@
-//! Every limit of a length from both sides, and what a refusal leaves.
+//! Every limit of the digests', HMAC's and RC4's lengths from both sides, and
+//! what a refusal leaves.
 
 mod reference;
 
@@ -81,13 +82,17 @@ fn check_digest_limits(
 }
 
 #[test]
-fn the_named_limits_are_those_tested_here() {
+fn the_named_limits_are_those_tested() {
     assert_eq!(limits::DIGEST_DATA_MAX, 65_536);
     assert_eq!(limits::HMAC_KEY_MAX, 65_536);
     assert_eq!(limits::HMAC_TEXT_MAX, 65_472);
     assert_eq!(limits::RC4_KEY_MIN, 1);
     assert_eq!(limits::RC4_KEY_MAX, 256);
     assert_eq!(limits::RC4_DATA_MAX, 65_536);
+    assert_eq!(limits::PASSWORD_UNITS_MAX, 256);
+    assert_eq!(limits::MESSAGE_MAX, 32_768);
+    assert_eq!(limits::ENCRYPTED_MIN, 24);
+    assert_eq!(limits::ENCRYPTED_MAX, 32_792);
 }
 
 #[test]

@@ -60,34 +60,43 @@ fn a_checksum_test_is_refused_for_lengths_then_usage_then_checksum() {
     }
 }
 
-/// Regions past the end of a buffer of 40,000 octets, or round the largest
-/// number.
-const WRONG_STARTS: [usize; 5] = [
-    40_000,
-    40_001,
-    usize::MAX,
-    usize::MAX - 23,
-    usize::MAX - 32_791,
-];
+/// Wrong arguments of a call over a buffer of 40,000 octets.
+#[derive(Clone, Copy, Debug)]
+struct Wrong {
+    len: usize,
+    start: usize,
+    usage: u32,
+}
+
+/// Every wrong length with every wrong start and usage, among them sums of
+/// start and length that come out small if they wrap.
+fn wrongs(lens: &[usize]) -> Vec<Wrong> {
+    let starts = [40_000, 40_001, usize::MAX, usize::MAX - 23, usize::MAX - 63];
+    let mut wrongs = Vec::new();
+    for &len in lens {
+        for start in starts {
+            wrongs.extend(WRONG_USAGES.map(|usage| Wrong { len, start, usage }));
+        }
+    }
+    wrongs
+}
 
 #[test]
 fn encrypt_is_refused_for_length_then_region_then_usage() {
     let mut inputs = Inputs::new(133);
     let (key, confounder, buf) = (inputs.array(), inputs.array(), inputs.octets(40_000));
-    for wrong_len in [32_769, 100_000, usize::MAX - 24, usize::MAX] {
-        for (wrong_start, wrong_usage) in WRONG_STARTS.into_iter().zip(WRONG_USAGES.repeat(2)) {
-            for faults @ [length, region, usage] in fault_sets() {
-                let data_len = if length { wrong_len } else { 40 };
-                let start = if region { wrong_start } else { 5 };
-                let usage = if usage { wrong_usage } else { 4 };
-                let export = wrong_len % 2 == 0;
-                let terms = Terms { key, export, usage };
-                let outcome = calls::encrypt(&terms, &confounder, &buf, start, data_len);
-                let what = (faults, start, data_len, usage);
-                match first([1, 2, 3], faults) {
-                    0 => assert_eq!((outcome.number, outcome.len), (0, 64), "{what:?}"),
-                    number => outcome.must_be(&Outcome::refused(number, &buf), what),
-                }
+    for wrong in wrongs(&[32_769, 100_000, usize::MAX - 24, usize::MAX]) {
+        for faults @ [length, region, usage, export] in fault_sets() {
+            let data_len = if length { wrong.len } else { 40 };
+            let start = if region { wrong.start } else { 5 };
+            let usage = if usage { wrong.usage } else { 4 };
+            let terms = Terms { key, export, usage };
+            let outcome = calls::encrypt(&terms, &confounder, &buf, start, data_len);
+            let what = (faults, wrong);
+            // The strength is no fault: the last number is none.
+            match first([1, 2, 3, 0], faults) {
+                0 => assert_eq!((outcome.number, outcome.len), (0, 64), "{what:?}"),
+                number => outcome.must_be(&Outcome::refused(number, &buf), what),
             }
         }
     }
@@ -96,37 +105,29 @@ fn encrypt_is_refused_for_length_then_region_then_usage() {
 #[test]
 fn decrypt_is_refused_for_length_then_region_then_usage_then_checksum() {
     let mut inputs = Inputs::new(134);
-    let (key, data) = (inputs.array(), inputs.octets(40));
-    for wrong_len in [0, 23, 32_793, usize::MAX - 5, usize::MAX] {
-        for (wrong_start, wrong_usage) in WRONG_STARTS.into_iter().zip(WRONG_USAGES.repeat(2)) {
-            for faults @ [length, region, usage, damage] in fault_sets() {
-                let export = wrong_len % 2 == 0;
-                let usage_there = if usage { wrong_usage } else { 4 };
-                let writer = Terms {
-                    key,
-                    export,
-                    usage: 4,
-                };
-                let mut buf = inputs.octets(40_000);
-                let message = writer.encrypt(&inputs.array(), &data);
-                buf[5..][..64].copy_from_slice(&message);
-                buf[40] ^= u8::from(damage);
+    let (key, data, mut buf) = (inputs.array(), inputs.octets(40), inputs.octets(40_000));
+    for wrong in wrongs(&[0, 23, 32_793, usize::MAX - 5, usize::MAX]) {
+        for faults @ [length, region, usage, damage, export] in fault_sets() {
+            let writer = Terms {
+                key,
+                export,
+                usage: 4,
+            };
+            buf[5..69].copy_from_slice(&writer.encrypt(&inputs.array(), &data));
+            buf[40] ^= u8::from(damage);
 
-                let length = if length { wrong_len } else { 64 };
-                let start = if region { wrong_start } else { 5 };
-                let reader = Terms {
-                    usage: usage_there,
-                    ..writer
-                };
-                let outcome = calls::decrypt(&reader, &buf, start, length);
-                let what = (faults, start, length, usage_there);
-                match first([1, 2, 3, 6], faults) {
-                    0 => {
-                        assert_eq!((outcome.number, outcome.len), (0, 40), "{what:?}");
-                        must_be_octets(&outcome.buf[5 + HEADER..][..40], &data, what);
-                    }
-                    number => outcome.must_be(&Outcome::refused(number, &buf), what),
+            let length = if length { wrong.len } else { 64 };
+            let start = if region { wrong.start } else { 5 };
+            let usage = if usage { wrong.usage } else { 4 };
+            let reader = Terms { usage, ..writer };
+            let outcome = calls::decrypt(&reader, &buf, start, length);
+            let what = (faults, wrong);
+            match first([1, 2, 3, 6, 0], faults) {
+                0 => {
+                    assert_eq!((outcome.number, outcome.len), (0, 40), "{what:?}");
+                    must_be_octets(&outcome.buf[5 + HEADER..69], &data, what);
                 }
+                number => outcome.must_be(&Outcome::refused(number, &buf), what),
             }
         }
     }

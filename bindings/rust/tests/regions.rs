@@ -119,10 +119,9 @@ fn several_messages_stand_side_by_side_in_one_buffer() {
         );
         assert_eq!(answer, Ok(54));
     }
-    let export = false;
     let terms = Terms {
         key,
-        export,
+        export: false,
         usage: 14,
     };
     let messages = confounders.map(|confounder| terms.encrypt(&confounder, &data));

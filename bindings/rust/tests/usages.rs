@@ -4,7 +4,9 @@ mod calls;
 mod reference;
 
 use rc4hmac::Usage;
-use reference::{message_type, must_be_octets, outcomes, Inputs, Outcome, Terms, HEADER, USAGES};
+use reference::{
+    message_type, must_be_octets, outcomes, salt, Inputs, Outcome, Terms, HEADER, USAGES,
+};
 
 /// In the order of the list in RFC 4757, section 3.
 const NAMED: [Usage; 15] = [
@@ -67,6 +69,15 @@ fn the_message_type_is_the_usages_number_but_for_3_and_9() {
         let expected = if usage == 3 || usage == 9 { 8 } else { usage };
         assert_eq!(message_type(usage), expected);
     }
+}
+
+/// The second program's, held to the rows C, D and E of the rules.
+#[test]
+fn the_salts_of_the_reference_are_those_of_the_rules() {
+    assert_eq!(salt(false, 3), [8, 0, 0, 0]);
+    assert_eq!(salt(false, 15), [15, 0, 0, 0]);
+    let fortybits = [0x66, 0x6f, 0x72, 0x74, 0x79, 0x62, 0x69, 0x74, 0x73, 0x00];
+    assert_eq!(salt(true, 9), [&fortybits[..], &[8, 0, 0, 0]].concat());
 }
 
 #[test]

@@ -1,6 +1,12 @@
-//! Published vectors, as data: RFC 1320 and RFC 1321 (A.5), RFC 2104
-//! (appendix), RFC 2202 (section 2) and RFC 6229 (section 2).
+//! Vectors as data. Published ones: RFC 1320 and RFC 1321 (A.5), RFC 2104
+//! (appendix), RFC 2202 (section 2), RFC 6229 (section 2), RFC 4757 (section 2)
+//! and the tests of MIT krb5. And others that were computed for this.
 
+// Each test file uses its own share of this module.
+#![allow(dead_code)]
+
+pub mod computed;
+pub mod krb5;
 pub mod rfc6229;
 
 /// The octets that a string of hexadecimal digits stands for.
@@ -13,6 +19,15 @@ pub fn octets(hexadecimal: &str) -> Vec<u8> {
         .map(|pair| digit(pair[0]) << 4 | digit(pair[1]))
         .collect()
 }
+
+/// The same for a key or a checksum.
+pub fn array<const LEN: usize>(hexadecimal: &str) -> [u8; LEN] {
+    octets(hexadecimal).try_into().expect("a fixed length")
+}
+
+/// RFC 4757, section 2: a password and its key.
+pub const PASSWORD: &str = "foo";
+pub const PASSWORD_KEY: &str = "ac8e657f83df82beea5d43bdaf7800cc";
 
 /// The messages of both A.5, in order.
 pub const MESSAGES: [&str; 7] = [

@@ -41,6 +41,28 @@ fn every_damaged_bit_and_octet_is_found() {
     }
 }
 
+/// Under the damaged checksum confounder and data come out right: nothing but
+/// the comparison of the whole checksum finds it.
+#[test]
+fn every_bit_of_the_checksum_is_compared() {
+    let mut inputs = Inputs::new(70);
+    for terms in Terms::all(&mut inputs) {
+        for len in [0, 20] {
+            let (confounder, data) = (inputs.array(), inputs.octets(len));
+            let checksum = terms.checksum(&confounder, &data);
+            for bit in 0..128 {
+                let mut damaged = checksum;
+                damaged[bit / 8] ^= 1 << (bit % 8);
+                let message = terms.seal(&damaged, &confounder, &data);
+                check_refused(&terms, &message, (terms.name(), len, bit));
+            }
+            let message = terms.seal(&checksum, &confounder, &data);
+            let outcome = calls::decrypt(&terms, &message, 0, message.len());
+            assert_eq!((outcome.number, outcome.len), (0, len));
+        }
+    }
+}
+
 #[test]
 fn a_damaged_octet_of_a_long_message_is_found() {
     let mut inputs = Inputs::new(72);

@@ -44,12 +44,23 @@ impl Terms {
         (k1, k2)
     }
 
-    /// The message: the checksum, then confounder and data under one stream.
+    /// The message of a confounder and data.
     pub fn encrypt(&self, confounder: &[u8; 8], data: &[u8]) -> Vec<u8> {
-        let (k1, k2) = self.keys();
+        self.seal(&self.checksum(confounder, data), confounder, data)
+    }
+
+    /// The checksum in the message: of the confounder and the data, both plain.
+    pub fn checksum(&self, confounder: &[u8; 8], data: &[u8]) -> [u8; 16] {
+        let (_, k2) = self.keys();
+        hmac_md5(&k2, &[confounder, data].concat())
+    }
+
+    /// The message with a given checksum: confounder and data, under one
+    /// stream, come out of it right even if the checksum is not theirs.
+    pub fn seal(&self, checksum: &[u8; 16], confounder: &[u8; 8], data: &[u8]) -> Vec<u8> {
+        let (k1, _) = self.keys();
+        let k3 = hmac_md5(&k1, checksum);
         let plain = [confounder, data].concat();
-        let checksum = hmac_md5(&k2, &plain);
-        let k3 = hmac_md5(&k1, &checksum);
         [&checksum[..], &rc4(&k3, &plain)].concat()
     }
 

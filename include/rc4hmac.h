@@ -20,8 +20,9 @@ extern "C" {
  *   - a pointer with a length beside it is followed by as many octets, or
  *     16-bit units, as the length says; it may be null, or point nowhere, only
  *     where the length is 0;
- *   - a key, a confounder, a digest or a checksum of a fixed length, and a
- *     pointer to a length to be written, is never null and has its full size;
+ *   - a pointer to a fixed number of octets (a key, a confounder, a digest or
+ *     a checksum declared with its length) or to a length to be written is
+ *     never null, and all that it points to may be read or written;
  *   - units and lengths to be written are aligned as their types ask;
  *   - the areas lent to one call do not overlap. */
 
@@ -51,7 +52,8 @@ extern "C" {
 
 /* Usages, by their numbers in RFC 4757, section 3. The message type T is the
  * usage's number, but usages 3 and 9 have T = 8, as usage 8 has: each of the
- * three opens the others' messages and passes the others' checksums. */
+ * three opens the others' messages and passes the others' checksums. MIT krb5
+ * and Heimdal have T = 9 for usage 9; here the RFC's list decides. */
 #define RC4HMAC_USAGE_AS_REQ_PA_ENC_TIMESTAMP 1u
 #define RC4HMAC_USAGE_AS_REP_TGS_REP_TICKET 2u
 #define RC4HMAC_USAGE_AS_REP_ENCRYPTED_PART 3u

@@ -4,7 +4,8 @@
 ///
 /// The message type T that the octets depend on is the usage's number, but
 /// usages 3 and 9 have T = 8, as usage 8 has: each of the three opens the
-/// others' messages and passes the others' checksums.
+/// others' messages and passes the others' checksums. MIT krb5 and Heimdal have
+/// T = 9 for usage 9; here the RFC's list decides.
 ///
 /// ```
 /// use rc4hmac::Usage;

@@ -133,9 +133,9 @@ fn decrypt_is_refused_for_length_then_region_then_usage_then_checksum() {
     }
 }
 
-/// The example of the rules: a too-long message in a region that does not fit.
+/// All three for usage 0 as well, which alone would get 3.
 #[test]
-fn a_too_long_message_that_does_not_fit_is_refused_with_1() {
+fn a_too_long_or_too_short_message_that_does_not_fit_is_refused_with_1() {
     let terms = Terms {
         key: [7; 16],
         export: false,

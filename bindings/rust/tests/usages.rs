@@ -71,9 +71,10 @@ fn the_message_type_is_the_usages_number_but_for_3_and_9() {
     }
 }
 
-/// The second program's, held to the rows C, D and E of the rules.
+/// T in four octets, low-order first, for export behind "fortybits" and its
+/// closing zero.
 #[test]
-fn the_salts_of_the_reference_are_those_of_the_rules() {
+fn the_salts_of_the_reference_are_those_written_out() {
     assert_eq!(salt(false, 3), [8, 0, 0, 0]);
     assert_eq!(salt(false, 15), [15, 0, 0, 0]);
     let fortybits = [0x66, 0x6f, 0x72, 0x74, 0x79, 0x62, 0x69, 0x74, 0x73, 0x00];

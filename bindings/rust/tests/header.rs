@@ -1,0 +1,86 @@
+//! The numbers that the C header names beside those of this binding.
+
+use std::collections::BTreeMap;
+
+use rc4hmac::{limits, Refusal, Usage};
+
+const HEADER: &str = include_str!("../../../include/rc4hmac.h");
+
+/// Every number that the header defines, by its name without `RC4HMAC_`.
+fn defined() -> BTreeMap<&'static str, usize> {
+    HEADER
+        .lines()
+        .filter_map(|line| line.strip_prefix("#define RC4HMAC_"))
+        .filter_map(|definition| definition.split_once(' '))
+        .map(|(name, rest)| {
+            let number = rest.split_once('u').expect("an unsigned number").0;
+            (name, number.parse().expect("a decimal number"))
+        })
+        .collect()
+}
+
+fn refusals() -> Vec<(&'static str, usize)> {
+    let number = |refusal: Refusal| refusal.number() as usize;
+    vec![
+        ("DONE", 0),
+        ("REFUSED_LENGTH", number(Refusal::Length)),
+        ("REFUSED_REGION", number(Refusal::Region)),
+        ("REFUSED_USAGE", number(Refusal::Usage)),
+        ("REFUSED_CHECKSUM", number(Refusal::Checksum)),
+    ]
+}
+
+fn lengths() -> Vec<(&'static str, usize)> {
+    vec![
+        ("DIGEST_LEN", rc4hmac::DIGEST_LEN),
+        ("DIGEST_DATA_MAX", limits::DIGEST_DATA_MAX),
+        ("HMAC_KEY_MAX", limits::HMAC_KEY_MAX),
+        ("HMAC_TEXT_MAX", limits::HMAC_TEXT_MAX),
+        ("RC4_KEY_MIN", limits::RC4_KEY_MIN),
+        ("RC4_KEY_MAX", limits::RC4_KEY_MAX),
+        ("RC4_DATA_MAX", limits::RC4_DATA_MAX),
+        ("KEY_LEN", rc4hmac::KEY_LEN),
+        ("CHECKSUM_LEN", rc4hmac::CHECKSUM_LEN),
+        ("CONFOUNDER_LEN", rc4hmac::CONFOUNDER_LEN),
+        ("PASSWORD_UNITS_MAX", limits::PASSWORD_UNITS_MAX),
+        ("MESSAGE_MAX", limits::MESSAGE_MAX),
+        ("ENCRYPTED_OVERHEAD", rc4hmac::ENCRYPTED_OVERHEAD),
+        ("ENCRYPTED_MIN", limits::ENCRYPTED_MIN),
+        ("ENCRYPTED_MAX", limits::ENCRYPTED_MAX),
+    ]
+}
+
+macro_rules! usages {
+    ($($name:ident)*) => {
+        vec![$((concat!("USAGE_", stringify!($name)), Usage::$name.number() as usize)),*]
+    };
+}
+
+fn usages() -> Vec<(&'static str, usize)> {
+    usages! {
+        AS_REQ_PA_ENC_TIMESTAMP
+        AS_REP_TGS_REP_TICKET
+        AS_REP_ENCRYPTED_PART
+        TGS_REQ_AUTHORIZATION_DATA_SESSION_KEY
+        TGS_REQ_AUTHORIZATION_DATA_SUBKEY
+        TGS_REQ_AUTHENTICATOR_CKSUM
+        TGS_REQ_AUTHENTICATOR
+        TGS_REP_ENCRYPTED_PART_SESSION_KEY
+        TGS_REP_ENCRYPTED_PART_SUBKEY
+        AP_REQ_AUTHENTICATOR_CKSUM
+        AP_REQ_AUTHENTICATOR
+        AP_REP_ENCRYPTED_PART
+        KRB_PRIV_ENCRYPTED_PART
+        KRB_CRED_ENCRYPTED_PART
+        KRB_SAFE_CKSUM
+    }
+}
+
+#[test]
+fn the_header_names_the_numbers_of_this_binding_and_no_others() {
+    let mut defined = defined();
+    for (name, number) in [refusals(), lengths(), usages()].concat() {
+        assert_eq!(defined.remove(name), Some(number), "{name}");
+    }
+    assert_eq!(defined, BTreeMap::new());
+}

@@ -20,6 +20,9 @@ use crate::usage::Usage;
 // Octets before the message: the checksum's sixteen and the confounder's eight.
 pub const OVERHEAD: usize = 24;
 
+// Where the confounder stands.
+const CONFOUNDER_AT: usize = 16;
+
 // How many octets of K1 export strength sets.
 const FILLED_OCTETS: usize = 9;
 
@@ -113,11 +116,11 @@ fn write(key: [u8; 16], strength: Strength, usage: Usage, confounder: [u8; 8], r
     requires { ⌜ 24 ≤ length (now region) ⌝ }
     ensures { λ _. ⌜ now (region .exit) ≡ Spec.encrypt key strength (usage .t) (Spec.parts confounder (drop 24 (now (region .entry)))) ⌝ }
 {
-    let front = seal(key, strength, usage, confounder, &mut region[24..]);
+    let front = seal(key, strength, usage, confounder, &mut region[OVERHEAD..]);
     let checksum = front.checksum;
     let encrypted = front.confounder;
     octets::place(region, 0, &checksum);
-    octets::place(region, 16, &encrypted);
+    octets::place(region, CONFOUNDER_AT, &encrypted);
 }
 
 // Restores confounder and message in a region, or leaves it as it came.
@@ -128,11 +131,11 @@ fn read(key: [u8; 16], strength: Strength, usage: Usage, region: &mut [u8]) -> S
 {
     let front = Front {
         checksum: octets::sixteen(region, 0),
-        confounder: octets::eight(region, 16),
+        confounder: octets::eight(region, CONFOUNDER_AT),
     };
-    let opened = unseal(key, strength, usage, front, &mut region[24..]);
+    let opened = unseal(key, strength, usage, front, &mut region[OVERHEAD..]);
     let confounder = opened.confounder;
-    octets::place(region, 16, &confounder);
+    octets::place(region, CONFOUNDER_AT, &confounder);
     let status = opened.status;
     status
 }

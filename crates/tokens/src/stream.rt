@@ -10,7 +10,8 @@ pub fn run(key: [u8; 16], confounder: [u8; 8], body: &mut [u8]) -> [u8; 8]
     ensures { λ r. ⌜ r ++ now (body .exit) ≡ rc4 key (confounder ++ now (body .entry)) ⌝ }
 {
     let mut front = confounder;
-    let state = Rc4::new(key).apply(&mut front);
+    let begun = Rc4::new(key);
+    let state = begun.apply(&mut front);
     state.apply(body);
     front
 }

@@ -8,9 +8,11 @@ mod blocks;
 mod hmac;
 mod md4;
 mod md5;
+mod message;
 mod rc4;
 
 pub use hmac::hmac_md5;
 pub use md4::md4;
 pub use md5::{md5, md5_table_driven};
+pub use message::decrypt;
 pub use rc4::{rc4, rc4_reading_ahead};

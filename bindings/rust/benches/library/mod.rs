@@ -37,3 +37,14 @@ pub fn rc4(key: &[u8], data: &mut [u8]) {
         unsafe { raw::rc4hmac_rc4(key.as_ptr(), key.len(), data.as_mut_ptr(), data.len()) };
     assert_eq!(answer, 0);
 }
+
+/// Decrypts a whole message of full strength in place.
+#[inline(always)]
+pub fn decrypt(key: &[u8; 16], usage: u32, message: &mut [u8]) -> bool {
+    let (len, mut found) = (message.len(), 0);
+    // SAFETY: an array, a slice and a number that the borrows keep apart.
+    let answer = unsafe {
+        raw::rc4hmac_decrypt(key, 0, usage, message.as_mut_ptr(), len, 0, len, &mut found)
+    };
+    answer == 0
+}

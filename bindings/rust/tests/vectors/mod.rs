@@ -1,6 +1,7 @@
 //! Vectors as data. Published ones: RFC 1320 and RFC 1321 (A.5), RFC 2104
-//! (appendix), RFC 2202 (section 2), RFC 6229 (section 2), RFC 4757 (section 2)
-//! and the tests of MIT krb5. And others that were computed for this.
+//! (appendix), RFC 2202 (section 2), RFC 6229 (section 2) and RFC 4757
+//! (section 2). And others: computed for this, or attributed to a source that
+//! was not at hand.
 
 // Each test file uses its own share of this module.
 #![allow(dead_code)]

@@ -4,7 +4,7 @@ use mathlib.Core.List.{List, [], _∷_}
 use Prim.Native.Nat.{ℕ}
 use native.Mathlib.Omega.{arith}
 use lib.ListN.{length, getD}
-use Rattle.tokens.specs.Strength.{fortybits, salt, saltAnswer}
+use Rattle.tokens.specs.Strength.{salt, saltAnswer}
 use Rattle.tokens.specs.declared.strength.Salt.{Salt}
 use Rattle.tokens.specs.declared.strength.Strength.the-variants.{Full, Export}
 

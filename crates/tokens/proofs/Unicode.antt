@@ -3,7 +3,7 @@ use mathlib.Core.Path.{_≡_, refl, sym, ap, _∙_}
 use mathlib.Core.List.{List, [], _∷_, _++_, append-assoc, append-nil}
 use Prim.Native.Nat.{ℕ, zero, suc, _+_, _-_, _*_, _/_, _%_, _<_, _≤_}
 use native.Mathlib.Omega.{arith}
-use lib.ListN.{length, getD, set, take, replicate, length-append, length-take}
+use lib.ListN.{length, getD, set, take, replicate}
 use lib.Seq.{length-take-le}
 use Rattle.primitives.specs.Octets.{littleEndian}
 use Rattle.primitives.proofs.Laws.{little-endian-two}

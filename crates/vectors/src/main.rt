@@ -2,10 +2,12 @@
 mod digests;
 mod keystreams;
 mod limits;
+mod rfc4757;
 mod text;
 
 fn main() {
     digests::run();
     keystreams::run();
+    rfc4757::run();
     limits::run();
 }

@@ -1,24 +1,21 @@
 -- Reading succeeds exactly on what the rule writes: of the octets of an encrypted message, and of a region of a buffer.
 use mathlib.Core.Path.{_≡_, refl, sym, ap, _∙_, subst}
-use mathlib.Core.Bool.{Bool, true, false, _&&_}
+use mathlib.Core.Bool.{true}
 use mathlib.Core.List.{List, [], _∷_, _++_, append-assoc}
-use Prim.Native.Nat.{ℕ, zero, suc, _+_, _-_, _≤_, _<_}
+use Prim.Native.Nat.{ℕ, zero, suc, _+_, _-_, _≤_}
 use native.Mathlib.Omega.{arith}
-use lib.Dec.{leb}
-use lib.ListN.{length, getD, take, drop, length-append, length-take, length-drop, take-append-drop}
+use lib.ListN.{length, take, drop, length-append, length-take, length-drop, take-append-drop}
 use lib.Seq.{take-at, drop-at, drop-drop, getD-drop, length-take-le}
 use borrow.Author.Tests.{leb-true, le-leb}
 use Rattle.primitives.specs.Octets.{Octets}
 use Rattle.primitives.specs.Rc4.{rc4, keySchedule}
 use Rattle.primitives.proofs.Laws.{apply-length, apply-octets, apply-twice, hmac-length, schedule-octets}
-use Rattle.tokens.specs.Answer.{Outcome, done, refused, require, number, extentNumber, extentOctets, extentAnswer}
-use Rattle.tokens.specs.Limits.{mostMessage, within, inside, region, placed, bufferAfter}
-use Rattle.tokens.specs.Message.{Parts, parts, messageLength, plain, k2, k3, messageChecksum, encrypt, overhead, decrypted, apart, opened, decryption, Written, HandedBack, ReadsExactly}
+use Rattle.tokens.specs.Answer.{Outcome, done, require, extentNumber, extentOctets, extentAnswer}
+use Rattle.tokens.specs.Limits.{mostMessage, region, placed, bufferAfter}
+use Rattle.tokens.specs.Message.{Parts, messageLength, plain, k2, k3, messageChecksum, encrypt, overhead, decrypted, apart, opened, decryption, Written, HandedBack, ReadsExactly}
 use Rattle.tokens.specs.Octets.{same}
-use Rattle.tokens.specs.Usage.{leastUsage, mostUsage, isUsage, typeOctets}
+use Rattle.tokens.specs.Usage.{leastUsage, mostUsage, typeOctets}
 use Rattle.tokens.specs.declared.answer.Extent.{Extent}
-use Rattle.tokens.specs.declared.answer.Refusal.{Refusal}
-use Rattle.tokens.specs.declared.answer.Refusal.the-variants.{Length, Region, Usage, Checksum}
 use Rattle.tokens.specs.declared.strength.Strength.{Strength}
 use Rattle.tokens.proofs.SameOctets.{same-true, same-self}
 use Rattle.tokens.proofs.Steps.{require-done, done-same, done-told, within-bounds}

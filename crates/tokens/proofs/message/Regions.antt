@@ -7,8 +7,7 @@ use lib.ListN.{length, take, drop, length-append, length-take, length-drop}
 use lib.Seq.{take-add, drop-at, drop-drop, length-take-le}
 use Rattle.tokens.specs.Answer.{Outcome, done, refused, statusAnswer, extentAnswer}
 use Rattle.tokens.specs.Limits.{region, placed, bufferAfter}
-use Rattle.tokens.specs.Message.{Parts, parts, messageLength, plain, encrypt, opened, written}
-use Rattle.tokens.specs.declared.answer.Extent.{Extent}
+use Rattle.tokens.specs.Message.{Parts, parts, messageLength, plain, encrypt, opened}
 use Rattle.tokens.specs.declared.answer.Extent.the-variants as extent
 use Rattle.tokens.specs.declared.answer.Status.{Status}
 use Rattle.tokens.specs.declared.answer.Status.the-variants.{Done}
@@ -36,12 +35,13 @@ module _ (key : List ℕ) (strength : Strength) (t : List ℕ) (buf : List ℕ) 
         let size : length (region (start + 24) n buf) ≡ n = simp (length-take, length-drop) (omega arith) in
         encrypt-length key strength t p ∙ simp length-append (omega arith)
 
-    pub written-buffer : {k : ℕ} {after : List ℕ} → k ≡ 24 + n → after ≡ encrypt key strength t (parts confounder (drop 24 (take k (drop start buf))))
+    -- from the part of k octets that was lent, and the T that it was written for
+    pub written-buffer : (k : ℕ) (u : List ℕ) {after : List ℕ} → k ≡ 24 + n → u ≡ t → after ≡ encrypt key strength u (parts confounder (drop 24 (take k (drop start buf))))
         → take start buf ++ (after ++ drop k (drop start buf)) ≡ placed start (encrypt key strength t p) buf
-    written-buffer {k} {after} e ea =
+    written-buffer k u {after} e eu ea =
         let d = drop start buf in
         let all = encrypt key strength t p in
-        let after-is : after ≡ all = ea ∙ rw (e, message-part) in
+        let after-is : after ≡ all = ea ∙ rw (e, eu, message-part) in
         let part : length (take (24 + n) d) ≡ length all = simp (length-take, length-drop) (omega (arith, written-length)) in
         let at : start + 0 ≡ start = omega arith in
         ap (λ (m : ℕ). take start buf ++ (after ++ drop m d)) e
@@ -58,9 +58,13 @@ module _ (key : List ℕ) (strength : Strength) (t : List ℕ) (buf : List ℕ) 
     region-length : length (region start n buf) ≡ n
     region-length = simp (length-take, length-drop) (omega arith)
 
-    pub read-buffer : {k : ℕ} {after : List ℕ} → k ≡ n → after ≡ bufferAfter plain 16 (region start k buf) (opened key strength t (region start k buf))
+    -- from the part of k octets that was lent, and the T that it was opened for
+    pub read-status : (k : ℕ) (u : List ℕ) {s : Status} → k ≡ n → u ≡ t → s ≡ statusAnswer (opened key strength u (region start k buf)) → s ≡ statusAnswer o
+    read-status k u e eu es = es ∙ rw (e, eu)
+
+    pub read-buffer : (k : ℕ) (u : List ℕ) {after : List ℕ} → k ≡ n → u ≡ t → after ≡ bufferAfter plain 16 (region start k buf) (opened key strength u (region start k buf))
         → take start buf ++ (after ++ drop k (drop start buf)) ≡ bufferAfter plain (start + 16) buf o
-    read-buffer {k} {after} e ea = rw (ea, e) (within o refl)
+    read-buffer k u e eu ea = rw (ea, e, eu) (within o refl)
       where
         within : (x : Outcome Parts) → o ≡ x → take start buf ++ (bufferAfter plain 16 (region start n buf) x ++ drop n (drop start buf)) ≡ bufferAfter plain (start + 16) buf x
         within (done q) h = placed-within start n 16 (plain q) buf inside (omega (arith, opened-length key strength t (region start n buf) h, region-length))

@@ -1,11 +1,10 @@
 -- An encrypted message written and opened as its front and the message after it, from what each step gives.
 use mathlib.Core.Path.{_≡_, refl, sym, ap, ap₂, _∙_}
-use mathlib.Core.Bool.{Bool, true, false}
-use mathlib.Core.List.{List, [], _++_, append-assoc, append-nil}
+use mathlib.Core.List.{List, _++_, append-nil}
 use Prim.Native.Nat.{ℕ, _+_, _-_, _≤_}
 use native.Mathlib.Omega.{arith}
-use lib.ListN.{length, take, drop, length-append, length-take, length-drop, take-append-drop, drop-of-length-le}
-use lib.Seq.{take-at, drop-at, take-append-le, drop-append-add, drop-append-le, drop-drop, length-take-le, take-take}
+use lib.ListN.{length, take, drop, length-append, length-drop, take-append-drop, drop-of-length-le}
+use lib.Seq.{take-at, drop-at, take-append-le, drop-append-add, drop-drop, length-take-le, take-take}
 use Rattle.primitives.specs.Hmac.{hmac}
 use Rattle.primitives.specs.Rc4.{rc4, keySchedule}
 use Rattle.primitives.proofs.Laws.{apply-twice, apply-length}

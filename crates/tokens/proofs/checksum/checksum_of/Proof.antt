@@ -1,6 +1,6 @@
 -- The digest of T and the data in two parts is that of the whole.
 use mathlib.Core.Path.{_≡_, ap, ap₂, sym, _∙_}
-use mathlib.Core.List.{List, _++_}
+use mathlib.Core.List.{_++_}
 use Rattle.primitives.specs.Hash.{absorb, begun, finished, md5}
 use Rattle.primitives.specs.Hmac.{hmac}
 use Rattle.primitives.specs.declared.hash.Hash.{Hash}

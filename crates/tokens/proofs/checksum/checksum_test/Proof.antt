@@ -1,5 +1,5 @@
 -- The refusals of the lengths, the usage and the checksum, in their order.
-use mathlib.Core.Path.{_≡_, ap, sym, _∙_}
+use mathlib.Core.Path.{ap, _∙_}
 use mathlib.Core.List.{List}
 use Prim.Native.Nat.{ℕ}
 use Rattle.tokens.specs.Octets.{same}

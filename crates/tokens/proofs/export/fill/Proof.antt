@@ -1,7 +1,7 @@
 -- The octets that are placed are n of nine that are all AB.
 use mathlib.Core.Path.{_≡_, ap, sym, _∙_}
 use mathlib.Core.List.{List}
-use Prim.Native.Nat.{ℕ, _+_, _≤_}
+use Prim.Native.Nat.{ℕ}
 use lib.ListN.{length, replicate}
 use lib.Seq.{length-take-le}
 use Rattle.tokens.specs.Limits.{placed}

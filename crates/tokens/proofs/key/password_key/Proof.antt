@@ -1,7 +1,6 @@
 -- The length's refusal, or the digest of the units' octets, which stand at the front of the array.
 use mathlib.Core.Path.{_≡_, ap, sym, _∙_}
-use mathlib.Core.List.{List}
-use Prim.Native.Nat.{ℕ, _*_, _≤_}
+use Prim.Native.Nat.{_*_, _≤_}
 use lib.ListN.{length, take}
 use lib.Seq.{length-take-le, take-at}
 use Rattle.primitives.specs.Hash.{absorb, begun, finished}

@@ -1,6 +1,6 @@
 -- The first i units have been turned to octets.
 use mathlib.Core.Path.{_≡_, refl, ap, sym, _∙_}
-use mathlib.Core.List.{List, _++_}
+use mathlib.Core.List.{_++_}
 use Prim.Native.Nat.{ℕ, _≤_, _-_, _*_}
 use native.Mathlib.Numerals.{add-one}
 use lib.ListN.{length, take, replicate}

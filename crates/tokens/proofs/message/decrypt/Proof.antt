@@ -1,9 +1,8 @@
 -- The refusals of the length, the region, the usage and the checksum, in their order, or the region read; and from that, that reading
 -- succeeds exactly on what the rule writes.
--- where the three have been passed
-use mathlib.Core.Path.{_≡_, ap, sym, _∙_}
-use Prim.Native.Nat.{ℕ, _+_, _-_, _≤_}
-use mathlib.Core.List.{List, _++_}
+use mathlib.Core.Path.{_≡_, sym, _∙_}
+use Prim.Native.Nat.{_+_, _-_, _≤_}
+use mathlib.Core.List.{_++_}
 use lib.ListN.{length, take, drop, length-take, length-drop}
 use borrow.Author.Tests.{leb-true}
 use Rattle.tokens.specs.Limits.{region, bufferAfter}
@@ -13,7 +12,7 @@ use Rattle.tokens.specs.Usage.{typeOctets}
 use Rattle.primitives.specs.Octets.{Octets}
 use Rattle.tokens.proofs.Steps.{goes-on, stops, was-refused, extent-refused, buffer-refused, test-held, within-bounds, named-status, named-type}
 use Rattle.tokens.proofs.message.Exactly.{exact-clauses}
-use Rattle.tokens.proofs.message.Regions.{read-length, read-buffer}
+use Rattle.tokens.proofs.message.Regions.{read-length, read-status, read-buffer}
 use borrow.Author.Needs.{needs}
 use native.Mathlib.Omega.{arith}
 use Rattle.tokens.proofs.message.decrypt.Statement.{statement}
@@ -28,6 +27,7 @@ sized c = within-bounds 24 32792 (c .before .before .before .before .args .len) 
 inside : (c : tie.After-enum-told3) → let a = c .before .before .before .before .before .before .before .args in a .start + a .len ≤ length (a .buf .now)
 inside c = leb-true _ _ (test-held _ _ (sym (c .before .before .region .ensures) ∙ c .enum-told3 .given .1))
 
+-- where the first three have been passed
 passed : (c : tie.After-read)
     → let a = c .before .before .before .before .before .before .before .before .before .before .before .before .before .args in
     Spec.decryption (a .key) (a .strength) (a .usage) (a .buf .now) (a .start) (a .len) ≡ Spec.opened (a .key) (a .strength) (typeOctets (a .usage)) (region (a .start) (a .len) (a .buf .now))
@@ -43,25 +43,26 @@ passed c =
 type-is : (c : tie.After-enum-told5) → c .before .before .new .result .usage .t ≡ typeOctets (c .before .before .before .before .before .before .before .before .before .before .args .usage)
 type-is c = named-type _ (c .before .before .new .ensures) (c .enum-told5 .given .1)
 
+-- what reading the part says of the region and of the buffer
 status-is : (c : tie.After-read)
     → let a = c .before .before .before .before .before .before .before .before .before .before .before .before .before .args in
     c .read .result ≡ statusAnswer (Spec.opened (a .key) (a .strength) (typeOctets (a .usage)) (region (a .start) (a .len) (a .buf .now)))
 status-is c =
     let a = c .before .before .before .before .before .before .before .before .before .before .before .before .before .args in
-    let size : a .start + a .len - a .start ≡ a .len = omega arith in
-    c .read .ensures .0 ∙ rw (type-is (c .before .before .before), size)
+    let part : a .start + a .len - a .start ≡ a .len = omega arith in
+    read-status (a .key) (a .strength) (typeOctets (a .usage)) (a .buf .now) (a .start) (a .len) (inside (c .before .before .before .before .before .before)) (sized (c .before .before .before .before .before .before .before .before .before) .0)
+    (a .start + a .len - a .start) _ part (type-is (c .before .before .before)) (c .read .ensures .0)
 
 buffer-is : (c : tie.After-read)
     → let a = c .before .before .before .before .before .before .before .before .before .before .before .before .before .args in
-    let k = a .start + a .len - a .start in
-    take (a .start) (a .buf .now) ++ (c .read .last .1 .1 .1 .0 ++ drop k (drop (a .start) (a .buf .now)))
+    take (a .start) (a .buf .now) ++ (c .read .last .1 .1 .1 .0 ++ drop (a .start + a .len - a .start) (drop (a .start) (a .buf .now)))
     ≡ bufferAfter Spec.plain (a .start + 16) (a .buf .now) (Spec.decryption (a .key) (a .strength) (a .usage) (a .buf .now) (a .start) (a .len))
 buffer-is c =
     let a = c .before .before .before .before .before .before .before .before .before .before .before .before .before .args in
-    let size : a .start + a .len - a .start ≡ a .len = omega arith in
+    let part : a .start + a .len - a .start ≡ a .len = omega arith in
     rw (passed c)
-    (read-buffer (a .key) (a .strength) (typeOctets (a .usage)) (a .buf .now) (a .start) (a .len) (inside (c .before .before .before .before .before .before)) (sized (c .before .before .before .before .before .before .before .before .before) .0) size
-    (c .read .ensures .1 ∙ ap (λ (t : List ℕ). bufferAfter Spec.plain 16 (region (a .start) (a .start + a .len - a .start) (a .buf .now)) (Spec.opened (a .key) (a .strength) t (region (a .start) (a .start + a .len - a .start) (a .buf .now)))) (type-is (c .before .before .before))))
+    (read-buffer (a .key) (a .strength) (typeOctets (a .usage)) (a .buf .now) (a .start) (a .len) (inside (c .before .before .before .before .before .before)) (sized (c .before .before .before .before .before .before .before .before .before) .0)
+    (a .start + a .len - a .start) _ part (type-is (c .before .before .before)) (c .read .ensures .1))
 
 returns : tie.Need-returns
 unfolding Spec.decryption

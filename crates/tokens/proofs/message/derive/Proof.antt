@@ -1,7 +1,5 @@
 -- K2 is the HMAC of the salt, and K1 is K2 with its octets set.
 use mathlib.Core.Path.{_≡_, ap, sym, _∙_}
-use mathlib.Core.List.{List}
-use Prim.Native.Nat.{ℕ}
 use lib.Seq.{length-take-le}
 use Rattle.primitives.specs.Hmac.{hmac}
 use Rattle.tokens.specs.Message as Spec

@@ -1,8 +1,7 @@
 -- The refusals of the length, the region and the usage, in their order, or the region written.
-use mathlib.Core.Path.{_≡_, ap, sym, _∙_}
-use Prim.Native.Nat.{ℕ, _+_, _-_, _≤_}
-use mathlib.Core.List.{List}
-use lib.ListN.{length, take, drop}
+use mathlib.Core.Path.{_≡_, sym, _∙_}
+use Prim.Native.Nat.{_+_, _-_, _≤_}
+use lib.ListN.{length}
 use borrow.Author.Tests.{leb-true}
 use Rattle.tokens.specs.Answer.{done}
 use Rattle.tokens.specs.Limits.{region}
@@ -77,8 +76,8 @@ returns-4 c =
     let place = inside second in
     let size = eight (first .before .before .before .before) in (
       rw (ended, written-length (a .key) (a .strength) (typeOctets (a .usage)) (a .buf .now) (a .start) (a .confounder) (a .len) size place),
-      rw ended (written-buffer (a .key) (a .strength) (typeOctets (a .usage)) (a .buf .now) (a .start) (a .confounder) (a .len) size place total
-          (c .before .before .write .ensures ∙ ap (λ (t : List ℕ). Spec.encrypt (a .key) (a .strength) t (Spec.parts (a .confounder) (drop 24 (take k (drop (a .start) (a .buf .now)))))) t)),
+      rw ended
+          (written-buffer (a .key) (a .strength) (typeOctets (a .usage)) (a .buf .now) (a .start) (a .confounder) (a .len) size place k _ total t (c .before .before .write .ensures)),
     )
 
 pub encrypt-spec : {M : Type 1} → statement M

@@ -1,7 +1,5 @@
 -- The region is its three fields, and has confounder and message afterwards as opening leaves them.
-use mathlib.Core.Path.{_≡_, ap, _∙_}
-use mathlib.Core.List.{List, _++_}
-use Prim.Native.Nat.{ℕ}
+use mathlib.Core.Path.{_≡_, _∙_}
 use lib.ListN.{length}
 use Rattle.tokens.proofs.message.Sealing.{front-fits, confounder-placed, read-status, read-octets}
 use borrow.Author.Needs.{needs}

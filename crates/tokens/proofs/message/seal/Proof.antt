@@ -1,6 +1,5 @@
 -- The checksum before what the run gave.
-use mathlib.Core.Path.{_≡_, ap, sym, _∙_}
-use Rattle.tokens.proofs.message.Sealing.{Run, sealed}
+use Rattle.tokens.proofs.message.Sealing.{sealed}
 use borrow.Author.Needs.{needs}
 use Rattle.tokens.proofs.message.seal.Statement.{statement}
 use Rattle.tokens.proofs.message.seal.Tie as tie

@@ -1,5 +1,4 @@
 -- The checksum decides: what the run gave stays, or a second run puts back what was there.
--- what is known after the first run
 use mathlib.Core.Path.{_≡_}
 use mathlib.Core.List.{_++_}
 use lib.ListN.{length}
@@ -11,6 +10,7 @@ use Rattle.tokens.proofs.message.unseal.Tie as tie
 sized : (c : tie.After-slice-known) → length (c .before .args .front .checksum) ≡ 16
 sized c = search needs
 
+-- what is known after the first run
 ran : (c : tie.After-run)
     → let keys = c .before .before .before .before .before .before .before .before in
     let a = keys .before .before .args in

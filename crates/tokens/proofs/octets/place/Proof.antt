@@ -5,7 +5,6 @@ use native.Mathlib.Numerals.{add-one}
 use lib.ListN.{length, length-set}
 use lib.Seq.{paste, paste-zero, paste-suc}
 use Rattle.tokens.proofs.Placing.{pasted}
-use borrow.Author.Needs.{needs}
 use native.Mathlib.Omega.{arith}
 use Rattle.tokens.proofs.octets.place.Statement.{statement}
 use Rattle.tokens.proofs.octets.place.Tie as tie

@@ -1,9 +1,6 @@
 -- The octets fill the array.
-use mathlib.Core.Path.{_≡_, ap, sym, _∙_}
-use mathlib.Core.List.{List}
-use Prim.Native.Nat.{ℕ, _+_, _-_}
-use lib.ListN.{length, take, drop, length-take, length-drop}
-use Rattle.tokens.specs.Limits.{region}
+use mathlib.Core.Path.{_∙_}
+use Prim.Native.Nat.{_-_}
 use Rattle.tokens.proofs.Placing.{part-whole, part-fits}
 use borrow.Author.Needs.{needs}
 use Rattle.tokens.proofs.octets.sixteen.Statement.{statement}

@@ -1,5 +1,5 @@
 -- A number below the first usage or above the last is refused, and the others have their T.
-use mathlib.Core.Path.{_≡_, ap, _∙_}
+use mathlib.Core.Path.{_∙_}
 use borrow.Author.Tests.{le-leb, lt-leb}
 use Rattle.tokens.specs.Usage.{named}
 use Rattle.tokens.proofs.MessageTypes.{one-octet}

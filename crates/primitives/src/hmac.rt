@@ -1,7 +1,9 @@
 // HMAC-MD5 of a text that comes in parts: RFC 2104, section 2.
 ghost use mathlib.Core.Path.{_≡_};
+ghost use mathlib.Core.List.{_++_};
 ghost use Prim.Native.Nat.{_≤_};
 ghost use lib.ListN.{length};
+ghost use Rattle.primitives.specs.Hash.{absorb, finished};
 ghost use Rattle.primitives.specs.Hmac as Spec;
 use crate::hash::Algorithm;
 use crate::hash::Hash;
@@ -50,6 +52,16 @@ fn xor_pad(pad: u8, block: [u8; 64]) -> [u8; 64]
     padded
 }
 
+// The digest after a last part, which costs nothing if it is empty.
+fn finish_with(state: Hash, last: &[u8]) -> [u8; 16]
+    ensures { λ r. ⌜ r ≡ finished (absorb state (now (last .entry))) ⌝ }
+{
+    if last.len() == 0 {
+        return state.finish();
+    }
+    state.update(last).finish()
+}
+
 impl Hmac {
     // Before the first octet of the text.
     pub fn new(key: &[u8]) -> Self
@@ -84,5 +96,27 @@ impl Hmac {
         let outer = self.outer;
         let digest = inner.finish();
         outer.update(&digest).finish()
+    }
+
+    // The code of a text in two parts under a key of sixteen octets, in one call. The key needs no hashing, and no state is kept of
+    // the outer hash while the inner one runs.
+    pub fn of_two(key: [u8; 16], first: &[u8], second: &[u8]) -> [u8; 16]
+        ensures { λ r. ⌜ r ≡ Spec.hmac key (now (first .entry) ++ now (second .entry)) ⌝ }
+    {
+        let block = filled(&key);
+        let ipad = xor_pad(0x36, block);
+        let opad = xor_pad(0x5c, block);
+        let inner = Hash::of_block(Algorithm::Md5, ipad).update(first);
+        let digest = finish_with(inner, second);
+        Hash::of_block(Algorithm::Md5, opad)
+            .update(&digest)
+            .finish()
+    }
+
+    // The same of a text in one part.
+    pub fn of(key: [u8; 16], text: &[u8]) -> [u8; 16]
+        ensures { λ r. ⌜ r ≡ Spec.hmac key (now (text .entry)) ⌝ }
+    {
+        Hmac::of_two(key, text, &text[..0])
     }
 }

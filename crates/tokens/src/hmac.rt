@@ -8,12 +8,12 @@ use primitives::hmac::Hmac;
 pub fn of(key: [u8; 16], text: &[u8]) -> [u8; 16]
     ensures { λ r. ⌜ r ≡ Spec.hmac key (now (text .entry)) ⌝ }
 {
-    Hmac::new(&key).update(text).finish()
+    Hmac::of(key, text)
 }
 
 // HMAC(key, concat(confounder, text)).
 pub fn of_two(key: [u8; 16], confounder: [u8; 8], text: &[u8]) -> [u8; 16]
     ensures { λ r. ⌜ r ≡ Spec.hmac key (confounder ++ now (text .entry)) ⌝ }
 {
-    Hmac::new(&key).update(&confounder).update(text).finish()
+    Hmac::of_two(key, &confounder, text)
 }

@@ -5,11 +5,11 @@ ghost use Rattle.tokens.specs.Checksum as Spec;
 use crate::answer::Digest;
 use crate::answer::Status;
 use crate::checks;
-use crate::hmac;
 use crate::limits;
 use crate::usage::Usage;
 use primitives::hash::Algorithm;
 use primitives::hash::Hash;
+use primitives::hmac::Hmac;
 
 // "signaturekey", with its closing zero.
 const SIGNATUREKEY: [u8; 13] = [
@@ -33,7 +33,7 @@ pub fn signature_key(key: [u8; 16]) -> [u8; 16]
     ensures { λ r. ⌜ r ≡ Spec.signatureKey key ⌝ }
 {
     let text = SIGNATUREKEY;
-    hmac::of(key, &text)
+    Hmac::of(key, &text)
 }
 
 // The checksum of the data for a T.
@@ -41,7 +41,7 @@ fn checksum_of(key: [u8; 16], t: [u8; 4], data: &[u8]) -> [u8; 16]
     ensures { λ r. ⌜ r ≡ Spec.checksum key t (now («data» .entry)) ⌝ }
 {
     let digest = Hash::new(Algorithm::Md5).update(&t).update(data).finish();
-    hmac::of(signature_key(key), &digest)
+    Hmac::of(signature_key(key), &digest)
 }
 
 // The checksum of 0 to 32,768 octets.

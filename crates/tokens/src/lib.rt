@@ -4,7 +4,6 @@ pub mod answer;
 mod checks;
 pub mod checksum;
 mod export;
-mod hmac;
 pub mod key;
 pub mod limits;
 pub mod message;

@@ -10,12 +10,12 @@ use crate::answer::Extent;
 use crate::answer::Status;
 use crate::checks;
 use crate::export;
-use crate::hmac;
 use crate::limits;
 use crate::octets;
 use crate::stream;
 use crate::strength::Strength;
 use crate::usage::Usage;
+use primitives::hmac::Hmac;
 
 // Octets before the message: the checksum's sixteen and the confounder's eight.
 pub const OVERHEAD: usize = 24;
@@ -51,7 +51,7 @@ fn derive(key: [u8; 16], strength: Strength, usage: Usage) -> Keys
     let salt = usage.salt(strength);
     let octets = salt.octets;
     let n = salt.length;
-    let k2 = hmac::of(key, &octets[..n]);
+    let k2 = Hmac::of(key, &octets[..n]);
     let k1 = export::fill(FILLED_OCTETS, strength, k2);
     Keys { k1: k1, k2: k2 }
 }
@@ -69,8 +69,8 @@ fn seal(
     let keys = derive(key, strength, usage);
     let k1 = keys.k1;
     let k2 = keys.k2;
-    let checksum = hmac::of_two(k2, confounder, message);
-    let k3 = hmac::of(k1, &checksum);
+    let checksum = Hmac::of_two(k2, &confounder, message);
+    let k3 = Hmac::of(k1, &checksum);
     let encrypted = stream::run(k3, confounder, message);
     Front {
         checksum: checksum,
@@ -94,9 +94,9 @@ fn unseal(
     let k2 = keys.k2;
     let checksum = front.checksum;
     let confounder = front.confounder;
-    let k3 = hmac::of(k1, &checksum);
+    let k3 = Hmac::of(k1, &checksum);
     let plain = stream::run(k3, confounder, message);
-    let expected = hmac::of_two(k2, plain, message);
+    let expected = Hmac::of_two(k2, &plain, message);
     let status = checks::checksum(&checksum, &expected);
     let Status::Done = status else {
         let restored = stream::run(k3, plain, message);

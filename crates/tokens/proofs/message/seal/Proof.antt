@@ -6,7 +6,7 @@ use Rattle.tokens.proofs.message.seal.Tie as tie
 
 returns : tie.Need-returns
 returns c =
-    let keys = c .before .before .before .before .before .before .before .before .before .before .derive .ensures in
+    let keys = c .before .before .before .before .before .before .before .before .before .before .before .derive .ensures in
     sealed _ _ _ _ _ (record {
       k1-is = keys .0;
       k2-is = keys .1;
@@ -15,4 +15,4 @@ returns c =
     }) (c .before .before .before .before .before .before .of-two .ensures)
 
 pub seal-spec : {M : Type 1} → statement M
-seal-spec = tie.close (tie.spec (λ c κs. search needs) (λ c κs. search needs) (λ c. search needs) (λ c κs. search needs) (λ c κs. search needs) (λ c. search needs) returns)
+seal-spec = tie.close (tie.spec (λ c κs. search needs) (λ c. search needs) (λ c κs. search needs) (λ c. search needs) (λ c κs. search needs) (λ c κs. search needs) (λ c. search needs) returns)

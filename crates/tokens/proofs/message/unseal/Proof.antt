@@ -27,8 +27,8 @@ ran c =
 returns : tie.Need-returns
 returns c =
     let test = c .before .before .before .before .before .before in
-    let g = ran (test .before .before .before .before .before .before .before) in
-    let size = sized (test .before .before .before .before .before .before .before .before .before .before .before .before .before .before .before .before) in
+    let g = ran (test .before .before .before .before .before .before .before .before) in
+    let size = sized (test .before .before .before .before .before .before .before .before .before .before .before .before .before .before .before .before .before) in
     let expected = test .before .before .before .of-two .ensures in (
       opened-status _ _ _ g size expected (test .checksum4 .ensures),
       opened-restored _ _ _ g size expected (test .checksum4 .ensures) (c .before .before .before .before .enum-told2 .given .1) (c .before .before .run2 .ensures),
@@ -37,12 +37,12 @@ returns c =
 returns-2 : tie.Need-returns-2
 returns-2 c =
     let test = c .before .before in
-    let g = ran (test .before .before .before .before .before .before .before) in
-    let size = sized (test .before .before .before .before .before .before .before .before .before .before .before .before .before .before .before .before) in
+    let g = ran (test .before .before .before .before .before .before .before .before) in
+    let size = sized (test .before .before .before .before .before .before .before .before .before .before .before .before .before .before .before .before .before) in
     let expected = test .before .before .before .of-two .ensures in (
       opened-status _ _ _ g size expected (test .checksum4 .ensures),
       opened-plain _ _ _ g size expected (test .checksum4 .ensures) (c .enum-told .given .1),
     )
 
 pub unseal-spec : {M : Type 1} → statement M
-unseal-spec = tie.close (tie.spec (λ c κs. search needs) (λ c. search needs) (λ c κs. search needs) (λ c κs. search needs) (λ c κs. search needs) (λ c. search needs) (λ c. search needs) (λ c κs. search needs) (λ c. search needs) (λ c. search needs) (λ c κs. search needs) (λ c. search needs) returns (λ c. search needs) returns-2)
+unseal-spec = tie.close (tie.spec (λ c κs. search needs) (λ c. search needs) (λ c κs. search needs) (λ c κs. search needs) (λ c. search needs) (λ c κs. search needs) (λ c. search needs) (λ c. search needs) (λ c κs. search needs) (λ c. search needs) (λ c. search needs) (λ c κs. search needs) (λ c. search needs) returns (λ c. search needs) returns-2)

@@ -1,7 +1,6 @@
 -- The outer hash of the digest that the inner one has of both parts, under a key that is filled as it is.
 use mathlib.Core.Path.{_≡_, ap, sym, _∙_}
-use mathlib.Core.List.{List, _++_}
-use Prim.Native.Nat.{ℕ}
+use mathlib.Core.List.{_++_}
 use lib.ListN.{length}
 use Rattle.primitives.specs.Hash.{absorb, begun, finished}
 use Rattle.primitives.specs.Hmac.{xorPad}

@@ -1,4 +1,4 @@
-// RFC 4757: the key of the password "foo" (section 2), and T of each usage by its name (section 3).
+// RFC 4757: the key of the password "foo" (section 2), and the number and T of each usage by its name (section 3).
 use crate::text;
 use tokens::key;
 use tokens::usage::Usage;
@@ -17,6 +17,8 @@ fn write_type(name: &[u8], number: u32) {
     let t = named.usage.t;
     text::write(name);
     text::write(b": ");
+    text::write_decimal(number as usize);
+    text::write(b" ");
     text::write_hex(&t);
     text::write(b"\n");
 }

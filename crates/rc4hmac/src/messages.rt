@@ -6,7 +6,7 @@ ghost use Rattle.tokens.specs.Answer.{number, statusNumber, statusAnswer, diges
 ghost use Rattle.tokens.specs.Checksum.{keyedChecksum, checksumTest};
 ghost use Rattle.tokens.specs.Key.{passwordKey};
 ghost use Rattle.tokens.specs.Limits.{bufferAfter};
-ghost use Rattle.tokens.specs.Message.{written, plain, messageLength, encryption, decryption, ReadsExactly};
+ghost use Rattle.tokens.specs.Message.{allOctets, plain, messageLength, encryption, decryption, ReadsExactly};
 ghost use Rattle.rc4hmac.specs.Messages.{strengthOf, DigestOut, ExtentOut};
 use tokens::answer::Digest;
 use tokens::answer::Extent;
@@ -120,7 +120,7 @@ pub extern "C" fn rc4hmac_encrypt(
     wrote: &mut usize,
 ) -> u32
     ensures answer { λ r. ⌜ ExtentOut (extentAnswer length (encryption (now (key .entry)) (strengthOf export) usage (now (confounder .entry)) (now (buf .entry)) start len)) r (now (wrote .exit)) ⌝ }
-    ensures buffer { λ _. ⌜ now (buf .exit) ≡ bufferAfter written start (now (buf .entry)) (encryption (now (key .entry)) (strengthOf export) usage (now (confounder .entry)) (now (buf .entry)) start len) ⌝ }
+    ensures buffer { λ _. ⌜ now (buf .exit) ≡ bufferAfter allOctets start (now (buf .entry)) (encryption (now (key .entry)) (strengthOf export) usage (now (confounder .entry)) (now (buf .entry)) start len) ⌝ }
 {
     let octets = *key;
     let eight = *confounder;

@@ -60,9 +60,9 @@ encrypt key strength t p =
 
 -- ---- The calls
 
--- all the octets of a result
-abbrev pub written : List ℕ → List ℕ
-written octets = octets
+-- what encrypting places in the buffer: all the octets of its result
+abbrev pub allOctets : List ℕ → List ℕ
+allOctets octets = octets
 
 -- octets before the message: the checksum's sixteen and the confounder's eight
 abbrev pub overhead : ℕ

@@ -151,7 +151,7 @@ pub fn encrypt(
     len: usize,
 ) -> Extent
     ensures answer { λ r. ⌜ r ≡ extentAnswer length (Spec.encryption key strength usage confounder (now (buf .entry)) start len) ⌝ }
-    ensures buffer { λ _. ⌜ now (buf .exit) ≡ bufferAfter Spec.written start (now (buf .entry)) (Spec.encryption key strength usage confounder (now (buf .entry)) start len) ⌝ }
+    ensures buffer { λ _. ⌜ now (buf .exit) ≡ bufferAfter Spec.allOctets start (now (buf .entry)) (Spec.encryption key strength usage confounder (now (buf .entry)) start len) ⌝ }
 {
     let sized = checks::length(0, limits::MOST_MESSAGE, len);
     let Status::Done = sized else {

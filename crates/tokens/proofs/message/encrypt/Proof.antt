@@ -28,7 +28,7 @@ unfolding Spec.encryption
 returns c =
     let told = c .before .enum-told2 .given .1 in
     let refused = stops _ _ _ (c .before .before .before .length .ensures) told in
-    (extent-refused told length refused (c .stopped-extent .ensures), buffer-refused Spec.written _ _ refused)
+    (extent-refused told length refused (c .stopped-extent .ensures), buffer-refused Spec.allOctets _ _ refused)
 
 add-total : tie.Need-add-total
 add-total c = omega (arith, sized c)
@@ -39,7 +39,7 @@ returns-2 c =
     let told = c .before .enum-told4 .given .1 in
     let first = c .before .before .before .before in
     let refused = goes-on _ _ _ (first .before .before .length .ensures) (first .enum-told .given .1) ∙ stops _ _ _ (c .before .before .before .region .ensures) told in
-    (extent-refused told length refused (c .stopped-extent2 .ensures), buffer-refused Spec.written _ _ refused)
+    (extent-refused told length refused (c .stopped-extent2 .ensures), buffer-refused Spec.allOctets _ _ refused)
 
 returns-3 : tie.Need-returns-3
 unfolding Spec.encryption
@@ -50,7 +50,7 @@ returns-3 c =
     let refused = goes-on _ _ _ (first .before .before .length .ensures) (first .enum-told .given .1)
     ∙ goes-on _ _ _ (second .before .before .region .ensures) (second .enum-told3 .given .1)
     ∙ stops _ _ _ (named-status _ (c .before .before .before .new .ensures)) told in
-    (extent-refused told length refused (c .stopped-extent3 .ensures), buffer-refused Spec.written _ _ refused)
+    (extent-refused told length refused (c .stopped-extent3 .ensures), buffer-refused Spec.allOctets _ _ refused)
 
 add-end : tie.Need-add-end
 add-end c = omega (arith, inside (c .before .before .before .before))

@@ -1,3 +1,4 @@
 -- What the contracts of the C interface cite.
 pub mod Primitives
-pub mod Messages
+pub mod Arguments
+pub mod Answers

@@ -1,4 +1,7 @@
 // The C interface of `include/rc4hmac.h`. Each function takes numbers and lent octets, makes one call, and answers the number
 // of a refusal, 0 when done.
 mod algorithms;
+mod answers;
+mod arguments;
+mod gss_tokens;
 mod messages;

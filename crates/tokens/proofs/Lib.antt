@@ -2,6 +2,9 @@
 mod SameOctets
 mod Steps
 mod Placing
+mod Lent
 mod Salts
+mod SignedText
+mod Fronts
 mod MessageTypes
 mod Unicode

@@ -1,10 +1,10 @@
 -- Octets placed in a buffer.
-use mathlib.Core.Path.{_≡_, sym, ap, _∙_}
-use mathlib.Core.List.{List, _++_, append-assoc, append-nil}
+use mathlib.Core.Path.{_≡_, refl, sym, ap, _∙_}
+use mathlib.Core.List.{List, [], _++_, append-assoc, append-nil}
 use Prim.Native.Nat.{ℕ, _+_, _-_, _≤_}
 use native.Mathlib.Omega.{arith}
-use lib.ListN.{length, take, drop, replicate, length-take, length-drop, take-append-drop, drop-of-length-le, length-replicate, replicate-append-replicate}
-use lib.Seq.{paste, take-at, take-add, take-all, take-length, take-take, drop-append-le, drop-drop}
+use lib.ListN.{length, take, drop, replicate, length-append, length-take, length-drop, take-append-drop, drop-of-length-le, length-replicate, replicate-append-replicate}
+use lib.Seq.{paste, take-at, drop-append-add, take-add, take-all, take-length, take-take, drop-append-le, drop-drop}
 use Rattle.tokens.specs.Limits.{region, placed}
 
 -- all of the octets have been copied
@@ -18,6 +18,26 @@ unfolding placed
 placed-all buf part e =
     let past : length buf ≤ 0 + length part = omega arith in
     rw (drop-of-length-le buf past, append-nil)
+
+-- parts placed one after the other, in an array that they fill
+next-placed : (a b z : List ℕ) (n : ℕ) → length a ≡ n → placed n b (a ++ z) ≡ (a ++ b) ++ drop (length b) z
+unfolding placed
+next-placed a b z n e = rw (take-at a z n e, ← e, drop-append-add a z (length b)) (sym (append-assoc a b (drop (length b) z)))
+
+pub two-placed : (a b z : List ℕ) (n : ℕ) → length a ≡ n → length z ≡ n + length b → placed n b (placed 0 a z) ≡ a ++ b
+two-placed a b z n ea ez =
+    let none : length (drop (length a) z) ≤ length b = rw length-drop (omega arith) in
+    ap (placed n b) (next-placed [] a z 0 refl) ∙ next-placed a b (drop (length a) z) n ea ∙ rw (drop-of-length-le (drop (length a) z) none) (append-nil (a ++ b))
+
+pub three-placed : (a b c z : List ℕ) (m n : ℕ) → length a ≡ m → m + length b ≡ n → length z ≡ n + length c → placed n c (placed m b (placed 0 a z)) ≡ a ++ (b ++ c)
+three-placed a b c z m n ea eb ez =
+    let y = drop (length b) (drop (length a) z) in
+    let both : length (a ++ b) ≡ n = length-append a b ∙ omega arith in
+    let none : length y ≤ length c = simp length-drop (omega arith) in
+    ap (λ (l : List ℕ). placed n c (placed m b l)) (next-placed [] a z 0 refl)
+    ∙ ap (placed n c) (next-placed a b (drop (length a) z) m ea)
+    ∙ next-placed (a ++ b) c y n both
+    ∙ rw (drop-of-length-le y none, append-nil) (append-assoc a b c)
 
 -- the first octets of some that are all the same
 pub take-replicate : (n m x : ℕ) → n ≤ m → take n (replicate m x) ≡ replicate n x

@@ -1,11 +1,13 @@
--- The salt of four given octets.
+-- The salt in fourteen octets: of four given ones, and as a text.
 use mathlib.Core.Path.{_≡_, refl}
 use mathlib.Core.List.{List, [], _∷_}
-use Prim.Native.Nat.{ℕ}
+use Prim.Native.Nat.{ℕ, _≤_}
 use native.Mathlib.Omega.{arith}
-use lib.ListN.{length, getD}
+use lib.ListN.{length, getD, take, length-append}
+use lib.Seq.{take-at}
 use Rattle.tokens.specs.Strength.{salt, saltAnswer}
 use Rattle.tokens.specs.declared.strength.Salt.{Salt}
+use Rattle.tokens.specs.declared.strength.Strength.{Strength}
 use Rattle.tokens.specs.declared.strength.Strength.the-variants.{Full, Export}
 
 -- a rule of a list holds of four octets if it holds of any four
@@ -34,3 +36,13 @@ full-salt = four (λ (t : List ℕ). fullSalt t ≡ saltAnswer Full t) (λ a b c
 pub export-salt : (t : List ℕ) → length t ≡ 4 → exportSalt t ≡ saltAnswer Export t
 unfolding salt saltAnswer
 export-salt = four (λ (t : List ℕ). exportSalt t ≡ saltAnswer Export t) (λ a b c d. refl)
+
+-- the salt, from its fourteen octets
+module _ (strength : Strength) (t : List ℕ) {s : Salt} (e : s ≡ saltAnswer strength t) where
+  pub salt-fits : s .length ≤ length (s .octets)
+  unfolding saltAnswer
+  salt-fits = rw e (simp length-append (omega arith))
+
+  pub salt-text : take (s .length) (s .octets) ≡ salt strength t
+  unfolding saltAnswer
+  salt-text = rw e (take-at (salt strength t) _ (length (salt strength t)) refl)

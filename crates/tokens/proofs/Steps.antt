@@ -6,16 +6,20 @@ use Prim.Native.Nat.{ℕ, _≤_}
 use native.Mathlib.Omega.{arith}
 use lib.Dec.{leb}
 use borrow.Author.Tests.{leb-true}
-use Rattle.tokens.specs.Answer.{Outcome, done, refused, require, number, statusNumber, tested, digestAnswer, extentNumber, extentAnswer, statusAnswer, stoppedDigest, stoppedExtent}
+use Rattle.tokens.specs.Answer.{Outcome, done, refused, require, andThen, number, statusNumber, tested, digestAnswer, extentNumber, extentAnswer, sequenceRefusal, sequenceAnswer, unwrappedNumber, statusAnswer, stoppedDigest, stoppedExtent, stoppedSequence, stoppedUnwrapped}
 use Rattle.tokens.specs.Limits.{within, bufferAfter}
 use Rattle.tokens.specs.Usage.{isUsage, typeOctets, notNamed, named}
 use Rattle.tokens.specs.declared.answer.Digest.{Digest}
 use Rattle.tokens.specs.declared.answer.Extent.{Extent}
 use Rattle.tokens.specs.declared.answer.Refusal.{Refusal}
 use Rattle.tokens.specs.declared.answer.Refusal.the-variants as Refusal
+use Rattle.tokens.specs.declared.answer.Sequence.{Sequence}
+use Rattle.tokens.specs.declared.answer.Sequence.the-variants as sequence
 use Rattle.tokens.specs.declared.answer.Status.{Status}
 use Rattle.tokens.specs.declared.answer.Status.the-variants.{Done, Refused}
+use Rattle.tokens.specs.declared.answer.Unwrapped.{Unwrapped}
 use Rattle.tokens.specs.declared.usage.Named.{Named}
+use Rattle.tokens.specs.Wrap.{Parts, unwrappedAnswer}
 
 pub both : (a b : Bool) → (a && b) ≡ true → (a ≡ true) × (b ≡ true)
 both true b e = (refl, e)
@@ -50,6 +54,12 @@ module _ {s : Status} {q : Refusal} (d : s ≡ Refused q) where
   pub extent-refused : {A : Type 0} (size : A → ℕ) {o : Outcome A} {r : Extent} → o ≡ refused q → r ≡ stoppedExtent s → r ≡ extentAnswer size o
   extent-refused size e er = er ∙ rw (d, e)
 
+  pub sequence-refused : {o : Outcome ℕ} {r : Sequence} → o ≡ refused q → r ≡ stoppedSequence s → r ≡ sequenceAnswer o
+  sequence-refused e er = er ∙ rw (d, e)
+
+  pub unwrapped-refused : {o : Outcome Parts} {r : Unwrapped} → o ≡ refused q → r ≡ stoppedUnwrapped s → r ≡ unwrappedAnswer o
+  unwrapped-refused e er = er ∙ rw (d, e)
+
   pub status-refused : {A : Type 0} {o : Outcome A} → o ≡ refused q → s ≡ statusAnswer o
   status-refused e = rw (d, e)
 
@@ -78,7 +88,10 @@ never-zero : (r : Refusal) → number r ≡ 0 → ⊥
 never-zero Refusal.Length e = omega arith
 never-zero Refusal.Region e = omega arith
 never-zero Refusal.Usage e = omega arith
+never-zero Refusal.Header e = omega arith
+never-zero Refusal.Direction e = omega arith
 never-zero Refusal.Checksum e = omega arith
+never-zero Refusal.Pad e = omega arith
 
 module _ {A : Type 0} where
   pub require-done : (b : Bool) (r : Refusal) (o : Outcome A) (a : A) → require b r o ≡ done a → (b ≡ true) × (o ≡ done a)
@@ -100,6 +113,40 @@ module _ {A : Type 0} where
   pub was-refused : (o : Outcome A) {q : Refusal} → statusAnswer o ≡ Refused q → o ≡ refused q
   was-refused (done a) e = cc
   was-refused (refused r) e = cc
+
+-- the same for a sequence number
+pub number-told : (o : Outcome ℕ) → sequenceRefusal (sequenceAnswer o) ≡ 0 → (n : ℕ) × (o ≡ done n)
+number-told (done n) e = (n, refl)
+number-told (refused r) e = absurd (never-zero r e)
+
+pub was-number : (o : Outcome ℕ) {n : ℕ} → sequenceAnswer o ≡ sequence.Number n → o ≡ done n
+was-number (done m) e = cc
+was-number (refused r) e = absurd (never-zero r (ap sequenceRefusal e))
+
+pub no-number : (o : Outcome ℕ) {q : Refusal} → sequenceAnswer o ≡ sequence.Refused q → o ≡ refused q
+no-number (done m) e = cc
+no-number (refused r) e = cc
+
+-- and for a Wrap token
+pub parts-told : (o : Outcome Parts) → unwrappedNumber (unwrappedAnswer o) ≡ 0 → (p : Parts) × (o ≡ done p)
+parts-told (done p) e = (p, refl)
+parts-told (refused r) e = absurd (never-zero r e)
+
+-- ---- A step and what follows it
+
+module _ {A B : Type 0} (f : A → Outcome B) where
+  pub then-on : {o : Outcome A} {a : A} → o ≡ done a → andThen o f ≡ f a
+  unfolding andThen
+  then-on e = rw e
+
+  pub then-stops : {o : Outcome A} {q : Refusal} → o ≡ refused q → andThen o f ≡ refused q
+  unfolding andThen
+  then-stops e = rw e
+
+  pub then-done : (o : Outcome A) (b : B) → andThen o f ≡ done b → (a : A) × ((o ≡ done a) × (f a ≡ done b))
+  unfolding andThen
+  then-done (done a) b e = (a, (refl, e))
+  then-done (refused r) b e = absurd (never-zero r (ap (λ (o : Outcome B). statusNumber (statusAnswer o)) e))
 
 -- ---- Lengths and usages
 

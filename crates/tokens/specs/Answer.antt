@@ -7,16 +7,23 @@ use Rattle.tokens.specs.declared.answer.Digest.{Digest}
 use Rattle.tokens.specs.declared.answer.Extent.{Extent}
 use Rattle.tokens.specs.declared.answer.Extent.the-variants as extent
 use Rattle.tokens.specs.declared.answer.Refusal.{Refusal}
-use Rattle.tokens.specs.declared.answer.Refusal.the-variants.{Length, Region, Usage, Checksum}
+use Rattle.tokens.specs.declared.answer.Refusal.the-variants.{Length, Region, Usage, Header, Direction, Checksum, Pad}
+use Rattle.tokens.specs.declared.answer.Sequence.{Sequence}
+use Rattle.tokens.specs.declared.answer.Sequence.the-variants as sequence
 use Rattle.tokens.specs.declared.answer.Status.{Status}
 use Rattle.tokens.specs.declared.answer.Status.the-variants as status
+use Rattle.tokens.specs.declared.answer.Unwrapped.{Unwrapped}
+use Rattle.tokens.specs.declared.answer.Unwrapped.the-variants as unwrapped
 
 -- the number of a refusal
 abbrev pub number : Refusal → ℕ
 number Length = 1
 number Region = 2
 number Usage = 3
+number Header = 4
+number Direction = 5
 number Checksum = 6
+number Pad = 7
 
 -- what comes of a call: its result, or why it is refused
 pub data Outcome (A : Type 0) : Type 0 where
@@ -27,6 +34,11 @@ pub data Outcome (A : Type 0) : Type 0 where
 unfoldable pub require : {A : Type 0} → Bool → Refusal → Outcome A → Outcome A
 require true r o = o
 require false r o = refused r
+
+-- goes on with what a step gives, and is refused where the step is
+unfoldable pub andThen : {A B : Type 0} → Outcome A → (A → Outcome B) → Outcome B
+andThen (done a) f = f a
+andThen (refused r) f = refused r
 
 -- ---- The answers. Each is told as a number, 0 when done, and its values, zeros with a refusal
 
@@ -58,6 +70,36 @@ abbrev pub extentAnswer : {A : Type 0} → (A → ℕ) → Outcome A → Extent
 extentAnswer size (done a) = extent.Octets (size a)
 extentAnswer size (refused r) = extent.Refused r
 
+-- the sequence number of a token
+abbrev pub sequenceRefusal : Sequence → ℕ
+sequenceRefusal (sequence.Number n) = 0
+sequenceRefusal (sequence.Refused r) = number r
+
+abbrev pub sequenceNumber : Sequence → ℕ
+sequenceNumber (sequence.Number n) = n
+sequenceNumber (sequence.Refused r) = 0
+
+abbrev pub sequenceAnswer : Outcome ℕ → Sequence
+sequenceAnswer (done n) = sequence.Number n
+sequenceAnswer (refused r) = sequence.Refused r
+
+-- what a Wrap token holds: its sequence number, whether it is sealed, and the length of its message
+abbrev pub unwrappedNumber : Unwrapped → ℕ
+unwrappedNumber (unwrapped.Message n s l) = 0
+unwrappedNumber (unwrapped.Refused r) = number r
+
+abbrev pub unwrappedSequence : Unwrapped → ℕ
+unwrappedSequence (unwrapped.Message n s l) = n
+unwrappedSequence (unwrapped.Refused r) = 0
+
+abbrev pub unwrappedSealed : Unwrapped → Bool
+unwrappedSealed (unwrapped.Message n s l) = s
+unwrappedSealed (unwrapped.Refused r) = false
+
+abbrev pub unwrappedLength : Unwrapped → ℕ
+unwrappedLength (unwrapped.Message n s l) = l
+unwrappedLength (unwrapped.Refused r) = 0
+
 -- ---- Steps
 
 -- the status of a step that makes one test
@@ -72,3 +114,16 @@ stoppedDigest s = record { status = s; octets = replicate 16 0 }
 abbrev pub stoppedExtent : Status → Extent
 stoppedExtent status.Done = extent.Octets 0
 stoppedExtent (status.Refused r) = extent.Refused r
+
+abbrev pub stoppedSequence : Status → Sequence
+stoppedSequence status.Done = sequence.Number 0
+stoppedSequence (status.Refused r) = sequence.Refused r
+
+abbrev pub stoppedUnwrapped : Status → Unwrapped
+stoppedUnwrapped status.Done = unwrapped.Message 0 false 0
+stoppedUnwrapped (status.Refused r) = unwrapped.Refused r
+
+-- whether a step that gives a sequence number is done
+abbrev pub sequenceStatus : Sequence → Status
+sequenceStatus (sequence.Number n) = status.Done
+sequenceStatus (sequence.Refused r) = status.Refused r

@@ -1,5 +1,5 @@
--- What the contracts of `tokens` cite: keys, usages, the keyed checksum and encrypted messages as RFC 4757 defines them, the
--- limits and the answers.
+-- What the contracts of `tokens` cite: keys, usages, the keyed checksum, encrypted messages, and MIC and Wrap tokens as RFC 4757
+-- defines them, the limits and the answers.
 pub mod Answer
 pub mod Limits
 pub mod Octets
@@ -8,3 +8,6 @@ pub mod Strength
 pub mod Usage
 pub mod Checksum
 pub mod Message
+pub mod Token
+pub mod Mic
+pub mod Wrap

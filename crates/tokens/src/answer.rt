@@ -5,7 +5,10 @@ pub enum Refusal {
     Length,
     Region,
     Usage,
+    Header,
+    Direction,
     Checksum,
+    Pad,
 }
 
 // Whether a step is done.
@@ -23,5 +26,21 @@ pub struct Digest {
 // How many octets a call wrote, or found.
 pub enum Extent {
     Octets(usize),
+    Refused(Refusal),
+}
+
+// The sequence number of a token.
+pub enum Sequence {
+    Number(u32),
+    Refused(Refusal),
+}
+
+// What a Wrap token holds beside its octets: its sequence number, whether it is sealed, and how long its message is.
+pub enum Unwrapped {
+    Message {
+        sequence: u32,
+        sealed: bool,
+        length: usize,
+    },
     Refused(Refusal),
 }

@@ -1,15 +1,17 @@
-// The steps that refuse a length, a region or a checksum, and what a call answers that stops at one.
+// The steps that make one test, and what a call answers that stops at one.
 ghost use mathlib.Core.Path.{_≡_};
 ghost use lib.Dec.{leb};
 ghost use Prim.Native.Nat.{_+_};
-ghost use Rattle.tokens.specs.Answer.{tested, stoppedDigest, stoppedExtent};
+ghost use Rattle.tokens.specs.Answer.{tested, stoppedDigest, stoppedExtent, stoppedSequence, stoppedUnwrapped, sequenceStatus};
 ghost use Rattle.tokens.specs.Limits.{within};
 ghost use Rattle.tokens.specs.Octets.{same};
 ghost use Rattle.tokens.specs.declared.answer.Refusal.the-variants as refusal;
 use crate::answer::Digest;
 use crate::answer::Extent;
 use crate::answer::Refusal;
+use crate::answer::Sequence;
 use crate::answer::Status;
+use crate::answer::Unwrapped;
 use crate::octets;
 
 // Whether a length lies from `least` to `most`.
@@ -38,14 +40,14 @@ pub fn region(start: usize, n: usize, end: usize) -> Status
     Status::Done
 }
 
-// Whether a checksum is the one expected. All its octets are compared.
-pub fn checksum(given: &[u8], expected: &[u8]) -> Status
-    ensures { λ r. ⌜ r ≡ tested (same (now (given .entry)) (now (expected .entry))) refusal.Checksum ⌝ }
+// Whether octets are the ones expected, or the refusal. All of them are compared.
+pub fn equal(given: &[u8], expected: &[u8], refusal: Refusal) -> Status
+    ensures { λ r. ⌜ r ≡ tested (same (now (given .entry)) (now (expected .entry))) refusal ⌝ }
 {
     if octets::same(given, expected) {
         return Status::Done;
     }
-    Status::Refused(Refusal::Checksum)
+    Status::Refused(refusal)
 }
 
 // A digest that is refused: sixteen zeros.
@@ -65,5 +67,39 @@ pub fn stopped_extent(status: Status) -> Extent
     match status {
         Status::Done => Extent::Octets(0),
         Status::Refused(refusal) => Extent::Refused(refusal),
+    }
+}
+
+// A sequence number that is refused.
+pub fn stopped_sequence(status: Status) -> Sequence
+    ensures { λ r. ⌜ r ≡ stoppedSequence status ⌝ }
+{
+    match status {
+        Status::Done => Sequence::Number(0),
+        Status::Refused(refusal) => Sequence::Refused(refusal),
+    }
+}
+
+// A Wrap token that is refused.
+pub fn stopped_unwrapped(status: Status) -> Unwrapped
+    ensures { λ r. ⌜ r ≡ stoppedUnwrapped status ⌝ }
+{
+    match status {
+        Status::Done => Unwrapped::Message {
+            sequence: 0,
+            sealed: false,
+            length: 0,
+        },
+        Status::Refused(refusal) => Unwrapped::Refused(refusal),
+    }
+}
+
+// Whether there is a sequence number.
+pub fn sequence_status(sequence: Sequence) -> Status
+    ensures { λ r. ⌜ r ≡ sequenceStatus sequence ⌝ }
+{
+    match sequence {
+        Sequence::Number(_) => Status::Done,
+        Sequence::Refused(refusal) => Status::Refused(refusal),
     }
 }

@@ -3,6 +3,7 @@ ghost use mathlib.Core.Path.{_≡_};
 ghost use Rattle.tokens.specs.Answer.{digestAnswer, statusAnswer};
 ghost use Rattle.tokens.specs.Checksum as Spec;
 use crate::answer::Digest;
+use crate::answer::Refusal;
 use crate::answer::Status;
 use crate::checks;
 use crate::limits;
@@ -83,5 +84,5 @@ pub fn checksum_test(key: [u8; 16], usage: u32, data: &[u8], checksum: &[u8]) ->
     };
     let t = named.usage.t;
     let expected = checksum_of(key, t, data);
-    checks::checksum(checksum, &expected)
+    checks::equal(checksum, &expected, Refusal::Checksum)
 }

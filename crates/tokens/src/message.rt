@@ -7,6 +7,7 @@ ghost use Rattle.tokens.specs.Answer.{statusAnswer, extentAnswer, extent
 ghost use Rattle.tokens.specs.Limits.{bufferAfter};
 ghost use Rattle.tokens.specs.Message as Spec;
 use crate::answer::Extent;
+use crate::answer::Refusal;
 use crate::answer::Status;
 use crate::checks;
 use crate::export;
@@ -97,7 +98,7 @@ fn unseal(
     let k3 = Hmac::of(k1, &checksum);
     let plain = stream::run(k3, confounder, message);
     let expected = Hmac::of_two(k2, &plain, message);
-    let status = checks::checksum(&checksum, &expected);
+    let status = checks::equal(&checksum, &expected, Refusal::Checksum);
     let Status::Done = status else {
         let restored = stream::run(k3, plain, message);
         return Opened {

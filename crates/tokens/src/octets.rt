@@ -52,3 +52,13 @@ pub fn sixteen(buf: &[u8], at: usize) -> [u8; 16]
     place(&mut octets, 0, &buf[at..at + 16]);
     octets
 }
+
+// The twenty-four octets of `buf` from `at`.
+pub fn twenty_four(buf: &[u8], at: usize) -> [u8; 24]
+    requires { ⌜ at + 24 ≤ length (now buf) ⌝ }
+    ensures { λ r. ⌜ r ≡ region at 24 (now (buf .entry)) ⌝ }
+{
+    let mut octets = [0u8; 24];
+    place(&mut octets, 0, &buf[at..at + 24]);
+    octets
+}

@@ -17,18 +17,10 @@ use Rattle.tokens.specs.Octets.{same}
 use Rattle.tokens.specs.Usage.{leastUsage, mostUsage, typeOctets}
 use Rattle.tokens.specs.declared.answer.Extent.{Extent}
 use Rattle.tokens.specs.declared.strength.Strength.{Strength}
+use Rattle.tokens.proofs.Lent.{octets-take, octets-drop, region-length}
 use Rattle.tokens.proofs.SameOctets.{same-true, same-self}
 use Rattle.tokens.proofs.Steps.{require-done, done-same, done-told, within-bounds}
 use Rattle.tokens.proofs.message.Sealing.{plain-apart}
-
-octets-take : (n : ℕ) (l : List ℕ) → Octets l → Octets (take n l)
-octets-take zero l h i = omega arith
-octets-take (suc n) [] h i = h i
-octets-take (suc n) (x ∷ l) h zero = h 0
-octets-take (suc n) (x ∷ l) h (suc i) = octets-take n l (λ j. h (suc j)) i
-
-octets-drop : (n : ℕ) (l : List ℕ) → Octets l → Octets (drop n l)
-octets-drop n l h i = rw getD-drop (h (n + i))
 
 apart-plain : (p : Parts) → length (p .confounder) ≡ 8 → apart (plain p) ≡ p
 unfolding plain
@@ -133,13 +125,10 @@ module _ (key : List ℕ) (strength : Strength) (usage : ℕ) where
     abbrev found : Outcome Parts
     found = decryption key strength usage buf start n
 
-    region-length : start + n ≤ length buf → length (region start n buf) ≡ n
-    region-length h = simp (length-take, length-drop) (omega arith)
-
     written-found : start + n ≤ length buf → (p : Parts) → Written key strength usage p (region start n buf) → found ≡ done p
     unfolding decryption require
     written-found h p w =
-        let l : n ≡ 24 + length (p .message) = sym (region-length h) ∙ written-length p (region start n buf) w in
+        let l : n ≡ 24 + length (p .message) = sym (region-length buf start n h) ∙ written-length p (region start n buf) w in
         rw (
           le-leb 24 n (omega arith),
           le-leb n (24 + mostMessage) (omega (arith, w .message-most)),
@@ -157,7 +146,7 @@ module _ (key : List ℕ) (strength : Strength) (usage : ℕ) where
         let bounds = within-bounds overhead (overhead + mostMessage) n (sized .0) in
         let usages = within-bounds leastUsage mostUsage usage (named .0) in
         let h = leb-true (start + n) (length buf) (fits .0) in
-        let l = region-length h in
+        let l = region-length buf start n h in
         let octets = octets-take n (drop start buf) (octets-drop start buf bytes) in
         let least : 24 ≤ length (region start n buf) = omega (arith, bounds .0) in
         let most : length (region start n buf) ≤ 24 + mostMessage = omega (arith, bounds .1) in (
@@ -177,7 +166,7 @@ module _ (key : List ℕ) (strength : Strength) (usage : ℕ) where
         → HandedBack p start 0 (messageLength p) (bufferAfter plain (start + 16) buf (done p))
     unfolding placed plain
     handed-back h p w =
-        let l : n ≡ 24 + length (p .message) = sym (region-length h) ∙ written-length p (region start n buf) w in
+        let l : n ≡ 24 + length (p .message) = sym (region-length buf start n h) ∙ written-length p (region start n buf) w in
         let front : length (take (start + 16) buf) ≡ start + 16 = length-take-le (start + 16) buf (omega arith) in
         let eight = w .confounder-eight in
         let tail : List ℕ = drop (start + 16 + length (p .confounder ++ p .message)) buf in

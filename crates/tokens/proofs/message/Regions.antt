@@ -12,7 +12,7 @@ use Rattle.tokens.specs.declared.answer.Extent.the-variants as extent
 use Rattle.tokens.specs.declared.answer.Status.{Status}
 use Rattle.tokens.specs.declared.answer.Status.the-variants.{Done}
 use Rattle.tokens.specs.declared.strength.Strength.{Strength}
-use Rattle.tokens.proofs.Placing.{placed-all, placed-within, unchanged-within}
+use Rattle.tokens.proofs.Lent.{region-length, written-region, read-region, behind}
 use Rattle.tokens.proofs.Steps.{was-done}
 use Rattle.tokens.proofs.message.Exactly.{encrypt-length, opened-length, opened-message}
 
@@ -22,12 +22,6 @@ module _ (key : List ℕ) (strength : Strength) (t : List ℕ) (buf : List ℕ) 
   module _ (confounder : List ℕ) (n : ℕ) (eight : length confounder ≡ 8) (inside : start + (24 + n) ≤ length buf) where
     abbrev p : Parts
     p = parts confounder (region (start + 24) n buf)
-
-    message-part : drop 24 (take (24 + n) (drop start buf)) ≡ region (start + 24) n buf
-    message-part =
-        let d = drop start buf in
-        let front : length (take 24 d) ≡ 24 = length-take-le 24 d (rw length-drop (omega arith)) in
-        ap (drop 24) (take-add 24 n d) ∙ drop-at (take 24 d) (take n (drop 24 d)) 24 front ∙ ap (take n) (drop-drop 24 start buf)
 
     pub written-length : length (encrypt key strength t p) ≡ 24 + n
     unfolding plain
@@ -39,15 +33,7 @@ module _ (key : List ℕ) (strength : Strength) (t : List ℕ) (buf : List ℕ) 
     pub written-buffer : (k : ℕ) (u : List ℕ) {after : List ℕ} → k ≡ 24 + n → u ≡ t → after ≡ encrypt key strength u (parts confounder (drop 24 (take k (drop start buf))))
         → take start buf ++ (after ++ drop k (drop start buf)) ≡ placed start (encrypt key strength t p) buf
     written-buffer k u {after} e eu ea =
-        let d = drop start buf in
-        let all = encrypt key strength t p in
-        let after-is : after ≡ all = ea ∙ rw (e, eu, message-part) in
-        let part : length (take (24 + n) d) ≡ length all = simp (length-take, length-drop) (omega (arith, written-length)) in
-        let at : start + 0 ≡ start = omega arith in
-        ap (λ (m : ℕ). take start buf ++ (after ++ drop m d)) e
-        ∙ ap (λ (w : List ℕ). take start buf ++ (w ++ drop (24 + n) d)) (after-is ∙ sym (placed-all (take (24 + n) d) all part))
-        ∙ placed-within start (24 + n) 0 all buf inside (omega (arith, written-length))
-        ∙ ap (λ (s : ℕ). placed s all buf) at
+        written-region buf start (24 + n) k inside e (encrypt key strength t p) written-length (ea ∙ rw (e, eu, behind buf start 24 n inside))
 
   -- ---- Reading n octets
 
@@ -55,23 +41,19 @@ module _ (key : List ℕ) (strength : Strength) (t : List ℕ) (buf : List ℕ) 
     abbrev o : Outcome Parts
     o = opened key strength t (region start n buf)
 
-    region-length : length (region start n buf) ≡ n
-    region-length = simp (length-take, length-drop) (omega arith)
-
     -- from the part of k octets that was lent, and the T that it was opened for
     pub read-status : (k : ℕ) (u : List ℕ) {s : Status} → k ≡ n → u ≡ t → s ≡ statusAnswer (opened key strength u (region start k buf)) → s ≡ statusAnswer o
     read-status k u e eu es = es ∙ rw (e, eu)
 
+    fits : (q : Parts) → o ≡ done q → 16 + length (plain q) ≤ n
+    fits q h = omega (arith, opened-length key strength t (region start n buf) h, region-length buf start n inside)
+
     pub read-buffer : (k : ℕ) (u : List ℕ) {after : List ℕ} → k ≡ n → u ≡ t → after ≡ bufferAfter plain 16 (region start k buf) (opened key strength u (region start k buf))
         → take start buf ++ (after ++ drop k (drop start buf)) ≡ bufferAfter plain (start + 16) buf o
-    read-buffer k u e eu ea = rw (ea, e, eu) (within o refl)
-      where
-        within : (x : Outcome Parts) → o ≡ x → take start buf ++ (bufferAfter plain 16 (region start n buf) x ++ drop n (drop start buf)) ≡ bufferAfter plain (start + 16) buf x
-        within (done q) h = placed-within start n 16 (plain q) buf inside (omega (arith, opened-length key strength t (region start n buf) h, region-length))
-        within (refused r) h = unchanged-within start n buf
+    read-buffer k u e eu ea = read-region buf start n k inside e plain 16 o fits (ea ∙ rw (e, eu))
 
     pub read-length : {s : Status} → s ≡ statusAnswer o → s ≡ Done → extent.Octets (n - 24) ≡ extentAnswer messageLength o
     read-length e d =
         let found = was-done o (sym e ∙ d) in
-        let size : messageLength (found .0) ≡ n - 24 = opened-message key strength t (region start n buf) (found .1) ∙ ap (λ (m : ℕ). m - 24) region-length in
+        let size : messageLength (found .0) ≡ n - 24 = opened-message key strength t (region start n buf) (found .1) ∙ ap (λ (m : ℕ). m - 24) (region-length buf start n inside) in
         rw (found .1, size)

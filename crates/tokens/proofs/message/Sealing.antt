@@ -22,17 +22,6 @@ use Rattle.tokens.specs.declared.strength.Strength.{Strength}
 use Rattle.tokens.proofs.Placing.{placed-all, placed-under, rest-of}
 use Rattle.tokens.proofs.Steps.{goes-on, stops, status-decided}
 
--- ---- The salt, from its fourteen octets
-
-module _ (strength : Strength) (t : List ℕ) {s : Salt} (e : s ≡ saltAnswer strength t) where
-  pub salt-fits : s .length ≤ length (s .octets)
-  unfolding saltAnswer
-  salt-fits = rw e (simp length-append (omega arith))
-
-  pub salt-text : take (s .length) (s .octets) ≡ salt strength t
-  unfolding saltAnswer
-  salt-text = rw e (take-at (salt strength t) _ (length (salt strength t)) refl)
-
 -- ---- Plain text apart
 
 pub plain-apart : (text : List ℕ) → plain (apart text) ≡ text
@@ -85,57 +74,3 @@ module _ (key : List ℕ) (strength : Strength) (t : List ℕ) where
         → back ≡ bufferAfter plain 0 text (opened key strength t (sum ++ text))
     opened-restored {s} {q} {back} e d b =
         rw (opened-is, stops (same sum expected) Checksum (done (apart out)) e d) (b ∙ ap (rc4 three) (g .run-is) ∙ apply-twice (keySchedule three) text)
-
--- ---- Over a region
-
-module _ (octets message : List ℕ) (long : 24 ≤ length octets) where
-  abbrev lent : List ℕ
-  lent = take 24 octets ++ (message ++ drop (length octets - 24) (drop 24 octets))
-
-  -- a region of which the message was lent
-  lent-is : lent ≡ take 24 octets ++ message
-  lent-is =
-      let past : length (drop 24 octets) ≤ length octets - 24 = rw length-drop (omega arith) in
-      rw (drop-of-length-le (drop 24 octets) past, append-nil)
-
-  pub front-fits : (n at : ℕ) → at + n ≤ 24 → at + n ≤ length lent
-  front-fits n at h = rw lent-is (simp length-append (omega (arith, length-take-le 24 octets long)))
-
-  -- the message behind its front
-  lent-message : drop 24 lent ≡ message
-  lent-message = rw lent-is (drop-at (take 24 octets) message 24 (length-take-le 24 octets long))
-
-  pub front-placed : (sum confounder : List ℕ) → length sum ≡ 16 → length confounder ≡ 8 → placed 16 confounder (placed 0 sum lent) ≡ sum ++ (confounder ++ message)
-  unfolding placed
-  front-placed sum confounder sixteen eight =
-      let sum-end : 0 + length sum ≡ 16 = omega arith in
-      let end : 16 + length confounder ≡ length sum + 8 = omega arith in
-      rw (sum-end, take-at sum (drop 16 lent) 16 sixteen, end, drop-append-add sum (drop 16 lent) 8, drop-drop 8 16 lent, lent-message)
-
-  pub confounder-placed : (confounder : List ℕ) → length confounder ≡ 8 → placed 16 confounder lent ≡ take 16 octets ++ (confounder ++ message)
-  unfolding placed
-  confounder-placed confounder eight =
-      let end : 16 + length confounder ≡ 24 = omega arith in
-      rw (end, lent-message, lent-is, take-append-le 16 (take 24 octets) message (omega (arith, length-take-le 24 octets long)), take-take 16 24 octets (omega arith))
-
--- confounder and message of a region afterwards, under the checksum as it came
-region-after : (octets : List ℕ) (o : Outcome Parts) → take 16 octets ++ bufferAfter plain 0 (drop 16 octets) o ≡ bufferAfter plain 16 octets o
-region-after octets (done p) = placed-under 16 (plain p) octets
-region-after octets (refused r) = take-append-drop 16 octets
-
-module _ (key : List ℕ) (strength : Strength) (t octets : List ℕ) {sum confounder : List ℕ} (sum-is : sum ≡ region 0 16 octets) (confounder-is : confounder ≡ region 16 8 octets) where
-  abbrev text : List ℕ
-  text = confounder ++ take (length octets - 24) (drop 24 octets)
-
-  text-is : text ≡ drop 16 octets
-  text-is = rw (confounder-is, rest-of 24 octets, ← drop-drop 8 16 octets) (take-append-drop 8 (drop 16 octets))
-
-  -- the fields of a region are all of it
-  whole : sum ++ text ≡ octets
-  whole = rw (sum-is, text-is) (take-append-drop 16 octets)
-
-  pub read-status : {s : Status} → s ≡ statusAnswer (opened key strength t (sum ++ text)) → s ≡ statusAnswer (opened key strength t octets)
-  read-status e = e ∙ ap (λ (l : List ℕ). statusAnswer (opened key strength t l)) whole
-
-  pub read-octets : {out : List ℕ} → out ≡ bufferAfter plain 0 text (opened key strength t (sum ++ text)) → take 16 octets ++ out ≡ bufferAfter plain 16 octets (opened key strength t octets)
-  read-octets e = rw (e, whole, text-is) (region-after octets (opened key strength t octets))

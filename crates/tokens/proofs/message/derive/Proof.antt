@@ -4,7 +4,7 @@ use lib.Seq.{length-take-le}
 use Rattle.primitives.specs.Hmac.{hmac}
 use Rattle.tokens.specs.Message as Spec
 use Rattle.tokens.specs.Strength.{exportFill}
-use Rattle.tokens.proofs.message.Sealing.{salt-fits, salt-text}
+use Rattle.tokens.proofs.Salts.{salt-fits, salt-text}
 use borrow.Author.Needs.{needs}
 use native.Mathlib.Omega.{arith}
 use Rattle.tokens.proofs.message.derive.Statement.{statement}

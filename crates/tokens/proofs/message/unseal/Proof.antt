@@ -30,8 +30,8 @@ returns c =
     let g = ran (test .before .before .before .before .before .before .before .before) in
     let size = sized (test .before .before .before .before .before .before .before .before .before .before .before .before .before .before .before .before .before) in
     let expected = test .before .before .before .of-two .ensures in (
-      opened-status _ _ _ g size expected (test .checksum4 .ensures),
-      opened-restored _ _ _ g size expected (test .checksum4 .ensures) (c .before .before .before .before .enum-told2 .given .1) (c .before .before .run2 .ensures),
+      opened-status _ _ _ g size expected (test .equal .ensures),
+      opened-restored _ _ _ g size expected (test .equal .ensures) (c .before .before .before .before .enum-told2 .given .1) (c .before .before .run2 .ensures),
     )
 
 returns-2 : tie.Need-returns-2
@@ -40,8 +40,8 @@ returns-2 c =
     let g = ran (test .before .before .before .before .before .before .before .before) in
     let size = sized (test .before .before .before .before .before .before .before .before .before .before .before .before .before .before .before .before .before) in
     let expected = test .before .before .before .of-two .ensures in (
-      opened-status _ _ _ g size expected (test .checksum4 .ensures),
-      opened-plain _ _ _ g size expected (test .checksum4 .ensures) (c .enum-told .given .1),
+      opened-status _ _ _ g size expected (test .equal .ensures),
+      opened-plain _ _ _ g size expected (test .equal .ensures) (c .enum-told .given .1),
     )
 
 pub unseal-spec : {M : Type 1} → statement M

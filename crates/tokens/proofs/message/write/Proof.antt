@@ -6,7 +6,7 @@ use lib.ListN.{length}
 use Rattle.tokens.specs.Limits.{placed}
 use Rattle.tokens.specs.Message.{parts, encrypt}
 use Rattle.tokens.proofs.Placing.{rest-of}
-use Rattle.tokens.proofs.message.Sealing.{front-fits, front-placed}
+use Rattle.tokens.proofs.Lent.{front-fits, front-placed}
 use borrow.Author.Needs.{needs}
 use native.Mathlib.Omega.{arith}
 use Rattle.tokens.proofs.message.write.Statement.{statement}
@@ -19,14 +19,14 @@ place-requires : tie.Need-place-requires
 place-requires c κs =
     let region = c .before .before .before .before .before .before .before .before .before .args .region .now in
     let size = sizes (c .before .before .before .before .before .before) .0 in
-    front-fits region (c .before .before .before .before .before .before .seal .last .1 .1 .1 .1 .0) (c .before .before .before .before .before .before .before .before .before .pre) (length (c .before .before .before .before .before .before .seal .result .checksum)) 0 (omega arith)
+    front-fits 16 region (c .before .before .before .before .before .before .seal .last .1 .1 .1 .1 .0) (c .before .before .before .before .before .before .before .before .before .pre) (length (c .before .before .before .before .before .before .seal .result .checksum)) 0 (omega arith)
 
 place-requires-2 : tie.Need-place-requires-2
 place-requires-2 c κs =
     let sealed = c .before .before .before .before .before .before .before .before .before .before .before in
     let region = sealed .before .before .before .args .region .now in
     let size = sizes sealed .1 in
-    let fits = front-fits region (sealed .seal .last .1 .1 .1 .1 .0) (sealed .before .before .before .pre) 8 16 (omega arith) in
+    let fits = front-fits 16 region (sealed .seal .last .1 .1 .1 .1 .0) (sealed .before .before .before .pre) 8 16 (omega arith) in
     omega (arith, c .before .before .before .before .place .kept .0)
 
 returns : tie.Need-returns
@@ -37,7 +37,7 @@ returns c =
     let size = sizes sealed in
     c .before .before .place2 .ensures
     ∙ ap (placed 16 (front .confounder)) (c .before .before .before .before .before .before .before .place .ensures)
-    ∙ front-placed (a .region .now) (sealed .seal .last .1 .1 .1 .1 .0) (sealed .before .before .before .pre) (front .checksum) (front .confounder) (size .0) (size .1)
+    ∙ front-placed 16 (a .region .now) (sealed .seal .last .1 .1 .1 .1 .0) (sealed .before .before .before .pre) (front .checksum) (front .confounder) (size .0) (size .1)
     ∙ sealed .seal .ensures
     ∙ ap (λ (l : List ℕ). encrypt (a .key) (a .strength) (a .usage .t) (parts (a .confounder) l)) (rest-of 24 (a .region .now))
 

@@ -1,0 +1,14 @@
+-- The three fields.
+use mathlib.Core.Path.{ap₂}
+use Rattle.tokens.specs.declared.context.Context.{Context}
+use Rattle.tokens.specs.declared.context.Sender.{Sender}
+use Rattle.tokens.specs.declared.strength.Strength.{Strength}
+use borrow.Author.Needs.{needs}
+use Rattle.rc4hmac.proofs.arguments.context_of.Statement.{statement}
+use Rattle.rc4hmac.proofs.arguments.context_of.Tie as tie
+
+returns : tie.Need-returns
+returns c = rw (c .before .strength-of .ensures, c .sender-of .ensures)
+
+pub context-of-spec : {M : Type 1} → statement M
+context-of-spec = tie.close (tie.spec (λ c κs. search needs) (λ c κs. search needs) returns)

@@ -1,0 +1,2 @@
+-- The laws of MIC tokens.
+mod Exactly

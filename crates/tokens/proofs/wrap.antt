@@ -1,0 +1,4 @@
+-- The laws of Wrap tokens.
+mod Exactly
+mod Opening
+mod Regions

@@ -24,6 +24,10 @@ padding n = 0x80 ∷ replicate (zeros n) 0 ++ littleEndian 8 (8 * n)
 abbrev pub padded : List ℕ → List ℕ
 padded message = message ++ padding (length message)
 
+-- how many blocks of 64 octets that is
+abbrev pub blocks : List ℕ → ℕ
+blocks message = length (padded message) / 64
+
 -- Section 3.3: the words A, B, C and D before the first block
 abbrev pub initial : Words
 initial = record { a = 0x67452301; b = 0xefcdab89; c = 0x98badcfe; d = 0x10325476 }
@@ -44,7 +48,7 @@ output w = littleEndian 4 (w .a) ++ (littleEndian 4 (w .b) ++ (littleEndian 4 (w
 
 -- the digest of a message
 unfoldable pub digest : Algorithm → List ℕ → List ℕ
-digest g message = output (afterBlocks g (length (padded message) / 64) (padded message))
+digest g message = output (afterBlocks g (blocks message) (padded message))
 
 abbrev pub md4 : List ℕ → List ℕ
 md4 message = digest is-md4 message

@@ -1,28 +1,12 @@
 // The answers of the calls as C sees them: the number of a refusal, and the values behind pointers, zeros with a refusal.
 ghost use mathlib.Core.Path.{_≡_};
-ghost use Rattle.tokens.specs.Answer.{number, statusNumber};
+ghost use Rattle.tokens.specs.Answer.{statusNumber};
 ghost use Rattle.rc4hmac.specs.Answers.{flagNumber, DigestOut, ExtentOut, SequenceOut, UnwrappedOut};
 use tokens::answer::Digest;
 use tokens::answer::Extent;
-use tokens::answer::Refusal;
 use tokens::answer::Sequence;
 use tokens::answer::Status;
 use tokens::answer::Unwrapped;
-
-// The number of a refusal.
-fn refusal_number(refusal: Refusal) -> u32
-    ensures { λ r. ⌜ r ≡ number refusal ⌝ }
-{
-    match refusal {
-        Refusal::Length => 1,
-        Refusal::Region => 2,
-        Refusal::Usage => 3,
-        Refusal::Header => 4,
-        Refusal::Direction => 5,
-        Refusal::Checksum => 6,
-        Refusal::Pad => 7,
-    }
-}
 
 // The number of a status.
 pub fn status_number(status: Status) -> u32
@@ -30,7 +14,7 @@ pub fn status_number(status: Status) -> u32
 {
     match status {
         Status::Done => 0,
-        Status::Refused(refusal) => refusal_number(refusal),
+        Status::Refused(refusal) => refusal.number(),
     }
 }
 
@@ -55,7 +39,7 @@ pub fn extent_out(answer: Extent, out: &mut usize) -> u32
         }
         Extent::Refused(refusal) => {
             *out = 0;
-            refusal_number(refusal)
+            refusal.number()
         }
     }
 }
@@ -71,7 +55,7 @@ pub fn sequence_out(answer: Sequence, out: &mut u32) -> u32
         }
         Sequence::Refused(refusal) => {
             *out = 0;
-            refusal_number(refusal)
+            refusal.number()
         }
     }
 }
@@ -110,7 +94,7 @@ pub fn unwrapped_out(
             *sequence = 0;
             *sealed = 0;
             *len = 0;
-            refusal_number(refusal)
+            refusal.number()
         }
     }
 }

@@ -84,7 +84,7 @@ status-decided b r a e h = e ∙ decided b ∙ ap statusAnswer (sym h)
 -- ---- Outcomes told apart
 
 -- no refusal has the number 0
-never-zero : (r : Refusal) → number r ≡ 0 → ⊥
+pub never-zero : (r : Refusal) → number r ≡ 0 → ⊥
 never-zero Refusal.Length e = omega arith
 never-zero Refusal.Region e = omega arith
 never-zero Refusal.Usage e = omega arith

@@ -11,3 +11,4 @@ pub mod Message
 pub mod Token
 pub mod Mic
 pub mod Wrap
+pub mod Rows

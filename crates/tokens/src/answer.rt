@@ -1,4 +1,6 @@
 // Why a call is refused, and what the calls answer. `specs/Answer.antt` has the number and the values of each.
+ghost use mathlib.Core.Path.{_≡_};
+ghost use Rattle.tokens.specs.Answer as Spec;
 
 // The refusals in the order of their numbers. The first that applies is given.
 pub enum Refusal {
@@ -9,6 +11,23 @@ pub enum Refusal {
     Direction,
     Checksum,
     Pad,
+}
+
+impl Refusal {
+    // The number that a caller is given.
+    pub fn number(self) -> u32
+        ensures { λ r. ⌜ r ≡ Spec.number self ⌝ }
+    {
+        match self {
+            Refusal::Length => 1,
+            Refusal::Region => 2,
+            Refusal::Usage => 3,
+            Refusal::Header => 4,
+            Refusal::Direction => 5,
+            Refusal::Checksum => 6,
+            Refusal::Pad => 7,
+        }
+    }
 }
 
 // Whether a step is done.

@@ -17,6 +17,7 @@ use Rattle.tokens.specs.Octets.{same}
 use Rattle.tokens.specs.Usage.{leastUsage, mostUsage, typeOctets}
 use Rattle.tokens.specs.declared.answer.Extent.{Extent}
 use Rattle.tokens.specs.declared.strength.Strength.{Strength}
+use Rattle.tokens.proofs.Lengths.{message-checksum-length, encrypt-length}
 use Rattle.tokens.proofs.Lent.{octets-take, octets-drop, region-length}
 use Rattle.tokens.proofs.SameOctets.{same-true, same-self}
 use Rattle.tokens.proofs.Steps.{require-done, done-same, done-told, within-bounds}
@@ -27,20 +28,11 @@ unfolding plain
 apart-plain p h = λ i. record { confounder = take-at (p .confounder) (p .message) 8 h i; message = drop-at (p .confounder) (p .message) 8 h i }
 
 module _ (key : List ℕ) (strength : Strength) (t : List ℕ) where
-  checksum-length : (text : List ℕ) → length (messageChecksum key strength t text) ≡ 16
-  unfolding messageChecksum
-  checksum-length text = hmac-length (k2 key strength t) text
-
-  pub encrypt-length : (p : Parts) → length (encrypt key strength t p) ≡ 16 + length (plain p)
-  unfolding encrypt
-  encrypt-length p =
-      simp length-append (omega (arith, checksum-length (plain p), apply-length (keySchedule (k3 key strength t (messageChecksum key strength t (plain p)))) (plain p)))
-
   -- ---- What the rule writes is opened
 
   encrypt-checksum : (p : Parts) → take 16 (encrypt key strength t p) ≡ messageChecksum key strength t (plain p)
   unfolding encrypt
-  encrypt-checksum p = take-at (messageChecksum key strength t (plain p)) _ 16 (checksum-length (plain p))
+  encrypt-checksum p = take-at (messageChecksum key strength t (plain p)) _ 16 (message-checksum-length key strength t (plain p))
 
   encrypt-decrypted : (p : Parts) → decrypted key strength t (encrypt key strength t p) ≡ plain p
   unfolding decrypted encrypt
@@ -48,7 +40,7 @@ module _ (key : List ℕ) (strength : Strength) (t : List ℕ) where
       let text = plain p in
       let sum = messageChecksum key strength t text in
       let st = keySchedule (k3 key strength t sum) in
-      let h = checksum-length text in
+      let h = message-checksum-length key strength t text in
       rw (take-at sum (rc4 (k3 key strength t sum) text) 16 h, drop-at sum (rc4 (k3 key strength t sum) text) 16 h) (apply-twice st text)
 
   pub encrypted-opens : (p : Parts) → length (p .confounder) ≡ 8 → opened key strength t (encrypt key strength t p) ≡ done p

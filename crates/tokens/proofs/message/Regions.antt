@@ -12,9 +12,10 @@ use Rattle.tokens.specs.declared.answer.Extent.the-variants as extent
 use Rattle.tokens.specs.declared.answer.Status.{Status}
 use Rattle.tokens.specs.declared.answer.Status.the-variants.{Done}
 use Rattle.tokens.specs.declared.strength.Strength.{Strength}
+use Rattle.tokens.proofs.Lengths.{encrypt-length}
 use Rattle.tokens.proofs.Lent.{region-length, written-region, read-region, behind}
 use Rattle.tokens.proofs.Steps.{was-done}
-use Rattle.tokens.proofs.message.Exactly.{encrypt-length, opened-length, opened-message}
+use Rattle.tokens.proofs.message.Exactly.{opened-length, opened-message}
 
 module _ (key : List ℕ) (strength : Strength) (t : List ℕ) (buf : List ℕ) (start : ℕ) where
   -- ---- Writing n octets behind 24

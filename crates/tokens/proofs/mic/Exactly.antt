@@ -15,25 +15,17 @@ use Rattle.tokens.specs.declared.answer.Refusal.the-variants.{Checksum}
 use Rattle.tokens.specs.declared.answer.Sequence.{Sequence}
 use Rattle.tokens.specs.declared.context.Context.{Context}
 use Rattle.tokens.proofs.Fronts.{checksum-length, front-length, front-header, front-checksum, front-number, number-fits, front-back}
+use Rattle.tokens.proofs.Lengths.{mic-header-length, mic-checksum-length, mic-length}
 use Rattle.tokens.proofs.Lent.{octets-take, octets-drop, region-length}
 use Rattle.tokens.proofs.SameOctets.{same-true, same-self}
 use Rattle.tokens.proofs.Steps.{require-done, then-done, done-same, number-told, within-bounds}
-
-header-eight : length header ≡ 8
-unfolding header
-header-eight = refl
 
 module _ (context : Context) (text : List ℕ) where
   abbrev sum : List ℕ
   sum = micChecksum context text
 
-  sum-eight : length sum ≡ 8
-  unfolding micChecksum
-  sum-eight = checksum-length (context .key) messageType header text
-
-  pub token-length : (n : ℕ) → length (micToken context n text) ≡ 24
-  unfolding micToken
-  token-length n = front-length context header sum n header-eight sum-eight []
+  abbrev sum-eight : length sum ≡ 8
+  sum-eight = mic-checksum-length context text
 
   -- ---- What the rule writes is read
 
@@ -43,10 +35,10 @@ module _ (context : Context) (text : List ℕ) where
     unfolding micNumber require andThen
     read-alone =
         rw (
-          front-header context header sum n header-eight sum-eight [],
+          front-header context header sum n mic-header-length sum-eight [],
           same-self header,
-          front-number context header sum n header-eight sum-eight [] fits,
-          front-checksum context header sum n header-eight sum-eight [],
+          front-number context header sum n mic-header-length sum-eight [] fits,
+          front-checksum context header sum n mic-header-length sum-eight [],
           same-self sum,
         )
 
@@ -87,7 +79,7 @@ module _ (context : Context) (text : List ℕ) where
     written-found : start + n ≤ length buf → (k : ℕ) → Written context text k (region start n buf) → found ≡ done k
     unfolding micReading require
     written-found h k w =
-        let size : n ≡ 24 = sym (region-length buf start n h) ∙ ap length (sym (w .as-written)) ∙ token-length k in
+        let size : n ≡ 24 = sym (region-length buf start n h) ∙ ap length (sym (w .as-written)) ∙ mic-length context text k in
         let least : micLength ≤ n = omega arith in
         let most : n ≤ micLength = omega arith in
         rw (

@@ -20,20 +20,12 @@ use Rattle.tokens.specs.declared.answer.Refusal.the-variants as Refusal
 use Rattle.tokens.specs.declared.answer.Unwrapped.{Unwrapped}
 use Rattle.tokens.specs.declared.context.Context.{Context}
 use Rattle.tokens.proofs.Fronts.{checksum-length, front-length, front-header, front-checksum, front-rest, front-number, number-fits, front-back}
+use Rattle.tokens.proofs.Lengths.{wrap-header-length, wrap-checksum-length, seal-length, plain-length, wrap-length}
 use Rattle.tokens.proofs.Lent.{octets-take, octets-drop, region-length}
 use Rattle.tokens.proofs.SameOctets.{same-true, same-self}
 use Rattle.tokens.proofs.Steps.{require-done, then-done, done-same, parts-told, within-bounds}
 
--- ---- Headers, checksums and texts
-
-header-eight : (sealed : Bool) → length (header sealed) ≡ 8
-unfolding header
-header-eight true = refl
-header-eight false = refl
-
-sum-eight : (context : Context) (sealed : Bool) (text : List ℕ) → length (wrapChecksum context sealed text) ≡ 8
-unfolding wrapChecksum
-sum-eight context sealed text = checksum-length (context .key) messageType (header sealed) text
+-- ---- Headers and texts
 
 -- the headers of sealed and clear tokens are told apart
 header-told : (sealed : Bool) (octets : List ℕ) → headerIn octets ≡ header sealed → sealedIn octets ≡ done sealed
@@ -57,11 +49,6 @@ pub seal-twice : (context : Context) (sealed : Bool) (n : ℕ) (text : List ℕ)
 unfolding underSeal
 seal-twice context true n text = apply-twice (keySchedule (sealingKey context n)) text
 seal-twice context false n text = refl
-
-pub seal-length : (context : Context) (sealed : Bool) (n : ℕ) (text : List ℕ) → length (underSeal context sealed n text) ≡ length text
-unfolding underSeal
-seal-length context true n text = apply-length (keySchedule (sealingKey context n)) text
-seal-length context false n text = refl
 
 seal-octets : (context : Context) (sealed : Bool) (n : ℕ) (text : List ℕ) → Octets text → Octets (underSeal context sealed n text)
 unfolding underSeal
@@ -88,10 +75,6 @@ plain-apart n sealed text least e =
     ∙ take-append-drop 8 text
 
 module _ (p : Parts) (eight : length (p .confounder) ≡ 8) where
-  pub plain-length : length (plain p) ≡ 9 + length (p .message)
-  unfolding plain
-  plain-length = simp length-append (omega arith)
-
   plain-last : getD (plain p) (length (plain p) - 1) 0 ≡ 1
   unfolding plain
   plain-last =
@@ -108,7 +91,7 @@ module _ (p : Parts) (eight : length (p .confounder) ≡ 8) where
   front-eight = take-at (p .confounder) (p .message ++ (1 ∷ [])) 8 eight
 
   middle : take (length (plain p) - 9) (drop 8 (plain p)) ≡ p .message
-  middle = rw behind (take-at (p .message) (1 ∷ []) (length (plain p) - 9) (omega (arith, plain-length)))
+  middle = rw behind (take-at (p .message) (1 ∷ []) (length (plain p) - 9) (omega (arith, plain-length p eight)))
 
   apart-plain : apart (p .sequence) (p .sealed) (plain p) ≡ p
   apart-plain = λ i. record { sequence = p .sequence; sealed = p .sealed; confounder = front-eight i; message = middle i }
@@ -123,16 +106,10 @@ module _ (p : Parts) (eight : length (p .confounder) ≡ 8) where
     body = underSeal context (p .sealed) (p .sequence) (plain p)
 
     abbrev size-header : length (header (p .sealed)) ≡ 8
-    size-header = header-eight (p .sealed)
+    size-header = wrap-header-length (p .sealed)
 
     abbrev size-sum : length sum ≡ 8
-    size-sum = sum-eight context (p .sealed) (plain p)
-
-    pub token-length : length (wrapToken context p) ≡ 33 + length (p .message)
-    unfolding wrapToken
-    token-length =
-        simp length-append
-        (omega (arith, front-length context (header (p .sealed)) sum (p .sequence) size-header size-sum [], seal-length context (p .sealed) (p .sequence) (plain p), plain-length))
+    size-sum = wrap-checksum-length context (p .sealed) (plain p)
 
     pub token-opened : p .sequence < sequenceNumbers → opened context (wrapToken context p) ≡ done p
     unfolding opened andThen verified require wrapToken
@@ -238,7 +215,7 @@ module _ (context : Context) where
   only-one p q octets v w = done-same (sym (written-opens p octets v) ∙ written-opens q octets w)
 
   written-length : (p : Parts) (octets : List ℕ) → Written context p octets → length octets ≡ 33 + length (p .message)
-  written-length p octets w = ap length (sym (w .as-written)) ∙ token-length p (w .confounder-eight) context
+  written-length p octets w = ap length (sym (w .as-written)) ∙ wrap-length p (w .confounder-eight) context
 
   module _ (buf : List ℕ) (start n : ℕ) where
     abbrev found : Outcome Parts

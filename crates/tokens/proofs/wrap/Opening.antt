@@ -22,9 +22,10 @@ use Rattle.tokens.specs.declared.answer.Unwrapped.the-variants as unwrap
 use Rattle.tokens.specs.declared.context.Context.{Context}
 use Rattle.tokens.specs.declared.wrap.Sealing.the-variants as sealing
 use Rattle.tokens.proofs.Fronts.{header-alone, checksum-alone, number-alone}
+use Rattle.tokens.proofs.Lengths.{seal-length}
 use Rattle.tokens.proofs.Placing.{placed-all}
 use Rattle.tokens.proofs.Steps.{require-done, goes-on, stops, then-on, then-stops, was-done, was-refused, was-number, no-number}
-use Rattle.tokens.proofs.wrap.Exactly.{plain-apart, seal-twice, seal-length}
+use Rattle.tokens.proofs.wrap.Exactly.{plain-apart, seal-twice}
 
 -- ---- The header
 

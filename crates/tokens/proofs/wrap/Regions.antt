@@ -11,8 +11,9 @@ use Rattle.tokens.specs.Limits.{region, placed, bufferAfter}
 use Rattle.tokens.specs.Wrap.{Parts, parts, plain, wrapToken, wrapLength, opened, unwrappedAnswer}
 use Rattle.tokens.specs.declared.answer.Unwrapped.{Unwrapped}
 use Rattle.tokens.specs.declared.context.Context.{Context}
+use Rattle.tokens.proofs.Lengths.{wrap-length}
 use Rattle.tokens.proofs.Lent.{region-length, written-region, read-region, behind}
-use Rattle.tokens.proofs.wrap.Exactly.{token-length, opened-length}
+use Rattle.tokens.proofs.wrap.Exactly.{opened-length}
 
 module _ (context : Context) (buf : List ℕ) (start : ℕ) where
   -- ---- Writing n octets behind 32
@@ -25,7 +26,7 @@ module _ (context : Context) (buf : List ℕ) (start : ℕ) where
     message-length = region-length buf (start + 32) n (omega arith)
 
     pub written-length : length (wrapToken context p) ≡ wrapLength n
-    written-length = token-length p eight context ∙ ap (λ (m : ℕ). 33 + m) message-length
+    written-length = wrap-length p eight context ∙ ap (λ (m : ℕ). 33 + m) message-length
 
     message-there : take (length (region start (wrapLength n) buf) - 33) (drop 32 (region start (wrapLength n) buf)) ≡ region (start + 32) n buf
     message-there =

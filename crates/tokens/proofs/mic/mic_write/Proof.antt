@@ -10,7 +10,7 @@ use Rattle.tokens.specs.Message.{allOctets}
 use Rattle.tokens.specs.Mic as Spec
 use Rattle.tokens.specs.Token.{front}
 use Rattle.tokens.proofs.Steps.{goes-on, stops, extent-refused, buffer-refused, test-held}
-use Rattle.tokens.proofs.mic.Exactly.{token-length}
+use Rattle.tokens.proofs.Lengths.{mic-length}
 use borrow.Author.Needs.{needs}
 use native.Mathlib.Omega.{arith}
 use Rattle.tokens.proofs.mic.mic_write.Statement.{statement}
@@ -53,7 +53,7 @@ returns-3 c =
     let whole = Spec.micToken (a .context) (a .sequence) (a .«data» .now) in
     let ended : Spec.micWriting (a .context) (a .sequence) (a .«data» .now) (a .buf .now) (a .start) ≡ done whole
     = goes-on _ _ _ (first .before .before .length .ensures) (first .enum-told .given .1) ∙ goes-on _ _ _ (second .before .before .region .ensures) (second .enum-told3 .given .1) in (
-      rw (ended, token-length (a .context) (a .«data» .now) (a .sequence)),
+      rw (ended, mic-length (a .context) (a .«data» .now) (a .sequence)),
       rw ended (c .before .before .place .ensures ∙ ap (λ (l : List ℕ). placed (a .start) l (a .buf .now)) (token-is made)),
     )
 

@@ -1,0 +1,23 @@
+// Text for the programs to write to standard output. There is no definition of what stands there, so these functions promise
+// nothing: what a program writes is held to its file `stdout`.
+use libc::STDOUT_FILENO;
+
+// Octets as they are.
+pub fn write(octets: &[u8]) {
+    io::write_all(STDOUT_FILENO, octets);
+}
+
+// Octets in hexadecimal.
+pub fn write_hex(octets: &[u8]) {
+    let mut i: usize = 0;
+    while i < octets.len() {
+        let octet = octets[i] as u64;
+        io::print_hex(STDOUT_FILENO, octet, 2);
+        i += 1;
+    }
+}
+
+// A number in decimal.
+pub fn write_decimal(n: usize) {
+    io::print_decimal(STDOUT_FILENO, n as u64);
+}

@@ -1,0 +1,35 @@
+-- The index runs to the end of both lists.
+use mathlib.Core.Path.{_≡_}
+use Prim.Native.Nat.{_≤_, _-_}
+use lib.ListN.{length}
+use borrow.Author.Needs.{needs}
+use native.Mathlib.Omega.{arith}
+use Rattle.refusals.proofs.answers.same.Statement.{statement}
+use Rattle.refusals.proofs.answers.same.Tie as tie
+
+abbrev Inv-loop : tie.InvT-loop
+Inv-loop before after i₀ i = (i ≤ length before) × (length before ≡ length after)
+
+abbrev μ-loop : tie.MeasureT-loop
+μ-loop before after i₀ i = length before - i
+
+loop-holds : tie.Need-loop-holds Inv-loop μ-loop
+loop-holds c = (omega arith, omega arith)
+
+shared-slice-read-if2 : tie.Need-shared-slice-read-if2 Inv-loop μ-loop
+shared-slice-read-if2 c = omega arith
+
+shared-slice-read-if2-2 : tie.Need-shared-slice-read-if2-2 Inv-loop μ-loop
+shared-slice-read-if2-2 c = omega arith
+
+add-i : tie.Need-add-i Inv-loop μ-loop
+add-i c = omega arith
+
+loop-less : tie.Need-loop-less Inv-loop μ-loop
+loop-less c = omega arith
+
+loop-again : tie.Need-loop-again Inv-loop μ-loop
+loop-again c = (omega arith, omega arith)
+
+pub same-spec : {M : Type 1} → statement M
+same-spec = tie.close (tie.spec Inv-loop μ-loop (λ c. search needs) loop-holds shared-slice-read-if2 shared-slice-read-if2-2 (λ c. search needs) add-i loop-less loop-again (λ c. search needs))

@@ -1,0 +1,2 @@
+-- What the contracts of `roundtrip` cite.
+pub mod Returns

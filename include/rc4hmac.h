@@ -1,6 +1,6 @@
-/* The C interface of librc4hmac.a: the keys, checksums and encrypted messages
- * of RC4-HMAC (RFC 4757), and MD4, MD5, HMAC-MD5 and RC4 under them, over
- * octets in memory, for x86-64 Linux. */
+/* The C interface of librc4hmac.a: the keys, checksums, encrypted messages, MIC
+ * tokens and Wrap tokens of RC4-HMAC (RFC 4757), and MD4, MD5, HMAC-MD5 and RC4
+ * under them, over octets in memory, for x86-64 Linux. */
 
 #ifndef RC4HMAC_H
 #define RC4HMAC_H
@@ -13,25 +13,29 @@ extern "C" {
 #endif
 
 /* Every function answers a refusal number, the lowest that applies. With a
- * refusal every digest, key, checksum and length written is zero, and no octet
- * of lent data is changed.
+ * refusal every digest, key, checksum, length and number written is zero, and
+ * no octet of lent data is changed.
  *
  * Assumed of a caller:
  *   - a pointer with a length beside it is followed by as many octets, or
  *     16-bit units, as the length says; it may be null, or point nowhere, only
  *     where the length is 0;
  *   - a pointer to a fixed number of octets (a key, a confounder, a digest or
- *     a checksum declared with its length) or to a length to be written is
- *     never null, and all that it points to may be read or written;
- *   - units and lengths to be written are aligned as their types ask;
+ *     a checksum declared with its length) or to a length or a number to be
+ *     written is never null, and all that it points to may be read or written;
+ *   - units, and lengths and numbers to be written, are aligned as their types
+ *     ask;
  *   - the areas lent to one call do not overlap. */
 
 /* Refusal numbers. */
-#define RC4HMAC_DONE 0u             /* no refusal: the work is done */
-#define RC4HMAC_REFUSED_LENGTH 1u   /* a length is outside its limits */
-#define RC4HMAC_REFUSED_REGION 2u   /* the region is not inside the buffer */
-#define RC4HMAC_REFUSED_USAGE 3u    /* the usage is not 1 to 15 */
-#define RC4HMAC_REFUSED_CHECKSUM 6u /* the checksum differs */
+#define RC4HMAC_DONE 0u              /* no refusal: the work is done */
+#define RC4HMAC_REFUSED_LENGTH 1u    /* a length is outside its limits */
+#define RC4HMAC_REFUSED_REGION 2u    /* the region is not inside the buffer */
+#define RC4HMAC_REFUSED_USAGE 3u     /* the usage is not 1 to 15 */
+#define RC4HMAC_REFUSED_HEADER 4u    /* no header of a token of this kind */
+#define RC4HMAC_REFUSED_DIRECTION 5u /* not from the expected sender */
+#define RC4HMAC_REFUSED_CHECKSUM 6u  /* the checksum differs */
+#define RC4HMAC_REFUSED_PAD 7u       /* the pad octet is not 01 */
 
 /* Lengths and limits, in octets. A limit is the last length let in. */
 #define RC4HMAC_DIGEST_LEN 16u
@@ -49,6 +53,11 @@ extern "C" {
 #define RC4HMAC_ENCRYPTED_OVERHEAD 24u /* the checksum and the confounder */
 #define RC4HMAC_ENCRYPTED_MIN 24u
 #define RC4HMAC_ENCRYPTED_MAX 32792u
+#define RC4HMAC_MIC_LEN 24u
+#define RC4HMAC_WRAP_OVERHEAD 33u /* the header fields, 32, and the pad */
+#define RC4HMAC_WRAP_MESSAGE_OFFSET 32u
+#define RC4HMAC_WRAP_MIN 33u
+#define RC4HMAC_WRAP_MAX 32801u
 
 /* Usages, by their numbers in RFC 4757, section 3. The message type T is the
  * usage's number, but usages 3 and 9 have T = 8, as usage 8 has: each of the
@@ -125,6 +134,71 @@ uint32_t rc4hmac_decrypt(const uint8_t key[16], uint32_t export_strength,
                          uint32_t usage,
                          uint8_t *buf, size_t buf_len,
                          size_t start, size_t length, size_t *data_len);
+
+/* MIC and Wrap tokens (RFC 4757, section 7), without GSS-API's outer frame.
+ *
+ * `export_strength`, `acceptor` and `sealed` are 0 for no and anything else for
+ * yes. `acceptor` says who the sender is, the acceptor of the context or its
+ * initiator; a reader is told the sender that it expects.
+ *
+ * A refused call writes zeros to `written`, `sequence`, `sealed` and
+ * `message_len`, and leaves every lent octet as it came.
+ *
+ * A wrong key, a wrong strength or a damaged SGN_CKSUM (octets 16 to 23) makes
+ * other direction octets of SND_SEQ (octets 8 to 15), and is refused with
+ * RC4HMAC_REFUSED_DIRECTION, as a wrong sender is, but for one chance in 2^32.
+ *
+ * The sequence number of a MIC token, and of a Wrap token that is not sealed,
+ * is under no checksum: such a token with its octets 8 to 11 changed is read or
+ * opened with another number, and not refused. The number of a sealed token
+ * makes the key that it is sealed under: if octets 8 to 11 are changed, the
+ * checksum differs. */
+
+/* Writes the MIC token of 0 to RC4HMAC_MESSAGE_MAX octets of data and a
+ * sequence number to the RC4HMAC_MIC_LEN octets at `start`, and that length to
+ * `written`. */
+uint32_t rc4hmac_mic_write(const uint8_t key[16], uint32_t export_strength,
+                           uint32_t acceptor, uint32_t sequence,
+                           const uint8_t *data, size_t data_len,
+                           uint8_t *buf, size_t buf_len,
+                           size_t start, size_t *written);
+
+/* Whether the `length` octets at `start`, RC4HMAC_MIC_LEN and no other number,
+ * are a MIC token of the data, by the answer: done, or the refusal for the
+ * header, the direction or the checksum. The sequence number is written to
+ * `sequence`; nothing is written to the buffer. */
+uint32_t rc4hmac_mic_read(const uint8_t key[16], uint32_t export_strength,
+                          uint32_t acceptor,
+                          const uint8_t *data, size_t data_len,
+                          const uint8_t *buf, size_t buf_len,
+                          size_t start, size_t length, uint32_t *sequence);
+
+/* Writes a Wrap token in place. The message, 0 to RC4HMAC_MESSAGE_MAX octets,
+ * stands RC4HMAC_WRAP_MESSAGE_OFFSET octets after `start`; the region from
+ * `start` to one octet after the message becomes the header fields, the
+ * confounder, the message and the pad, the latter three encrypted if `sealed`,
+ * and its length, RC4HMAC_WRAP_OVERHEAD more than the message's, is written to
+ * `written`. Each token needs a confounder of its own, of random octets. The
+ * keystream that seals a token depends on the key, the strength and the
+ * sequence number alone: two sealed tokens should not share all three, whoever
+ * sends them. */
+uint32_t rc4hmac_wrap_write(const uint8_t key[16], uint32_t export_strength,
+                            uint32_t acceptor, uint32_t sequence,
+                            const uint8_t confounder[8], uint32_t sealed,
+                            uint8_t *buf, size_t buf_len,
+                            size_t start, size_t message_len, size_t *written);
+
+/* Opens a Wrap token in place: the region of `length` octets at `start`,
+ * RC4HMAC_WRAP_MIN to RC4HMAC_WRAP_MAX of them, keeps its octets 0 to 23 and
+ * has the confounder (from its octet 24), the message (from its octet 32) and
+ * the pad plain. The sequence number is written to `sequence`, 1 or 0 for
+ * sealed or not to `sealed` and the message's length to `message_len`. */
+uint32_t rc4hmac_wrap_open(const uint8_t key[16], uint32_t export_strength,
+                           uint32_t acceptor,
+                           uint8_t *buf, size_t buf_len,
+                           size_t start, size_t length,
+                           uint32_t *sequence, uint32_t *sealed,
+                           size_t *message_len);
 
 #ifdef __cplusplus
 }

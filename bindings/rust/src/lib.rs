@@ -1,9 +1,35 @@
-//! Safe functions over `librc4hmac.a`: the keys, checksums and encrypted
-//! messages of RC4-HMAC (RFC 4757), and MD4, MD5, HMAC-MD5 and RC4 under them,
-//! over octets in memory, on x86-64 Linux.
+//! Safe functions over `librc4hmac.a`: the keys, checksums, encrypted messages,
+//! MIC tokens and Wrap tokens of RC4-HMAC (RFC 4757), and MD4, MD5, HMAC-MD5 and
+//! RC4 under them, over octets in memory, on x86-64 Linux.
 //!
 //! Every function takes lengths within [limits] and answers a [`Refusal`]
 //! outside them; a refusal changes nothing that was lent.
+//!
+//! A Wrap token, sealed by the initiator of a context and opened by its
+//! acceptor:
+//!
+//! ```
+//! use rc4hmac::{wrap_open, wrap_write, Context, Sender, Strength};
+//!
+//! let context = Context {
+//!     key: [7; 16],
+//!     strength: Strength::Full,
+//!     sender: Sender::Initiator,
+//! };
+//!
+//! // 32 octets for the header fields, then the message, then one for the pad.
+//! let mut buf = [&[0; 32], &b"a record"[..], &[0]].concat();
+//! let written = wrap_write(&context, 1, b"a nonce!", true, &mut buf, 0, 8)?;
+//! assert_eq!(written, 41);
+//! assert_ne!(&buf[32..40], b"a record");
+//!
+//! let opened = wrap_open(&context, &mut buf, 0, written)?;
+//! assert_eq!((opened.sequence, opened.sealed), (1, true));
+//! assert_eq!(&buf[32..32 + opened.message_len], b"a record");
+//! # Ok::<(), rc4hmac::Refusal>(())
+//! ```
+//!
+//! The key of a password, an encrypted message and a digest:
 //!
 //! ```
 //! use rc4hmac::{Strength, Usage};
@@ -34,19 +60,23 @@ mod lent;
 mod messages;
 mod primitives;
 mod refusal;
+mod sender;
 mod strength;
+mod tokens;
 mod usage;
 
 pub use messages::{checksum, checksum_test, decrypt, encrypt, password_key};
 pub use primitives::{hmac_md5, md4, md5, rc4};
 pub use refusal::Refusal;
+pub use sender::Sender;
 pub use strength::Strength;
+pub use tokens::{mic_read, mic_write, wrap_open, wrap_write, Context, Opened};
 pub use usage::Usage;
 
 /// The octets of an MD4, MD5 or HMAC-MD5 digest.
 pub const DIGEST_LEN: usize = 16;
 
-/// The octets of a key for checksums and encrypted messages.
+/// The octets of a key for checksums, encrypted messages and tokens.
 pub const KEY_LEN: usize = 16;
 
 /// The octets of a keyed checksum, and of the one in an encrypted message.
@@ -58,3 +88,14 @@ pub const CONFOUNDER_LEN: usize = 8;
 /// The octets before the data of an encrypted message: its checksum and its
 /// confounder.
 pub const ENCRYPTED_OVERHEAD: usize = CHECKSUM_LEN + CONFOUNDER_LEN;
+
+/// The octets of a MIC token.
+pub const MIC_LEN: usize = 24;
+
+/// Where in a Wrap token the message stands: behind the header, the sequence
+/// number, the checksum and the confounder.
+pub const WRAP_MESSAGE_OFFSET: usize = 32;
+
+/// The octets of a Wrap token that are not its message: those before it and
+/// the pad.
+pub const WRAP_OVERHEAD: usize = WRAP_MESSAGE_OFFSET + 1;

@@ -24,9 +24,10 @@ pub const RC4_DATA_MAX: usize = 65_536;
 /// units.
 pub const PASSWORD_UNITS_MAX: usize = 256;
 
-/// The most octets that [`checksum`](crate::checksum) and
-/// [`checksum_test`](crate::checksum_test) take, and that
-/// [`encrypt`](crate::encrypt) puts in a message.
+/// The most octets that [`checksum`](crate::checksum),
+/// [`checksum_test`](crate::checksum_test), [`mic_write`](crate::mic_write) and
+/// [`mic_read`](crate::mic_read) take, that [`encrypt`](crate::encrypt) puts in
+/// a message and [`wrap_write`](crate::wrap_write) in a token.
 pub const MESSAGE_MAX: usize = 32_768;
 
 /// The shortest message of [`decrypt`](crate::decrypt).
@@ -34,3 +35,9 @@ pub const ENCRYPTED_MIN: usize = 24;
 
 /// The longest message of [`decrypt`](crate::decrypt).
 pub const ENCRYPTED_MAX: usize = 32_792;
+
+/// The shortest token of [`wrap_open`](crate::wrap_open).
+pub const WRAP_MIN: usize = 33;
+
+/// The longest token of [`wrap_open`](crate::wrap_open).
+pub const WRAP_MAX: usize = 32_801;

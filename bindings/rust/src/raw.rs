@@ -1,16 +1,18 @@
 //! The functions of the archive as C sees them, in `include/rc4hmac.h`.
 //!
 //! Each answers a refusal number, the lowest that applies, 0 when done. With a
-//! refusal every digest, key, checksum and length written is zero, and no octet
-//! of lent data is changed.
+//! refusal every digest, key, checksum, length and number written is zero, and
+//! no octet of lent data is changed. `export_strength`, `acceptor` and `sealed`
+//! are 0 for no and anything else for yes; `acceptor` says who the sender is,
+//! for the readers the expected sender.
 //!
 //! # Safety
 //!
 //! For every function here: a pointer with a length beside it is followed by
 //! as many octets, or 16-bit units, as the length says, and may be null or
 //! dangling only where that length is 0; a pointer to an array is valid for all
-//! its octets, and one to a length is valid for writing it; units and lengths
-//! are aligned; the areas lent to one call do not overlap.
+//! its octets, and one to a length or a number is valid for writing it; units,
+//! lengths and numbers are aligned; the areas lent to one call do not overlap.
 
 extern "C" {
     /// The MD4 digest of `data`.
@@ -78,5 +80,66 @@ extern "C" {
         start: usize,
         length: usize,
         data_len: *mut usize,
+    ) -> u32;
+
+    /// Writes the MIC token of `data` to the 24 octets at `start`, and writes
+    /// its length.
+    pub fn rc4hmac_mic_write(
+        key: *const [u8; 16],
+        export_strength: u32,
+        acceptor: u32,
+        sequence: u32,
+        data: *const u8,
+        data_len: usize,
+        buf: *mut u8,
+        buf_len: usize,
+        start: usize,
+        written: *mut usize,
+    ) -> u32;
+
+    /// Whether the `length` octets at `start` are a MIC token of `data`; writes
+    /// its sequence number.
+    pub fn rc4hmac_mic_read(
+        key: *const [u8; 16],
+        export_strength: u32,
+        acceptor: u32,
+        data: *const u8,
+        data_len: usize,
+        buf: *const u8,
+        buf_len: usize,
+        start: usize,
+        length: usize,
+        sequence: *mut u32,
+    ) -> u32;
+
+    /// Makes a Wrap token of the `message_len` octets that stand 32 after
+    /// `start`, and writes its length.
+    pub fn rc4hmac_wrap_write(
+        key: *const [u8; 16],
+        export_strength: u32,
+        acceptor: u32,
+        sequence: u32,
+        confounder: *const [u8; 8],
+        sealed: u32,
+        buf: *mut u8,
+        buf_len: usize,
+        start: usize,
+        message_len: usize,
+        written: *mut usize,
+    ) -> u32;
+
+    /// Opens the Wrap token of `length` octets at `start`, and writes its
+    /// sequence number, 1 or 0 for sealed or not, and the message's length.
+    pub fn rc4hmac_wrap_open(
+        key: *const [u8; 16],
+        export_strength: u32,
+        acceptor: u32,
+        buf: *mut u8,
+        buf_len: usize,
+        start: usize,
+        length: usize,
+        sequence: *mut u32,
+        sealed: *mut u32,
+        message_len: *mut usize,
     ) -> u32;
 }

@@ -14,8 +14,15 @@ pub enum Refusal {
     /// The usage is not 1 to 15. A [`Usage`](crate::Usage) always is: only
     /// the functions of [`raw`](crate::raw) can meet this.
     Usage,
+    /// The header is not one of a token of the kind that is read.
+    Header,
+    /// The direction octets are not those of the expected sender. A wrong key,
+    /// a wrong strength and a damaged checksum of a token show here too.
+    Direction,
     /// The checksum differs.
     Checksum,
+    /// The last octet of a Wrap token, after opening, is not 01.
+    Pad,
     /// A number that this binding has no name for. The archive of the same
     /// version answers none; a later one might.
     Unnamed(u32),
@@ -28,7 +35,10 @@ impl Refusal {
             Refusal::Length => 1,
             Refusal::Region => 2,
             Refusal::Usage => 3,
+            Refusal::Header => 4,
+            Refusal::Direction => 5,
             Refusal::Checksum => 6,
+            Refusal::Pad => 7,
             Refusal::Unnamed(number) => number,
         }
     }
@@ -40,7 +50,10 @@ impl Refusal {
             1 => Err(Refusal::Length),
             2 => Err(Refusal::Region),
             3 => Err(Refusal::Usage),
+            4 => Err(Refusal::Header),
+            5 => Err(Refusal::Direction),
             6 => Err(Refusal::Checksum),
+            7 => Err(Refusal::Pad),
             _ => Err(Refusal::Unnamed(number)),
         }
     }
@@ -52,7 +65,10 @@ impl fmt::Display for Refusal {
             Refusal::Length => f.write_str("a length is outside its limits"),
             Refusal::Region => f.write_str("the region does not lie inside the buffer"),
             Refusal::Usage => f.write_str("the usage is not 1 to 15"),
+            Refusal::Header => f.write_str("the header is not one of such a token"),
+            Refusal::Direction => f.write_str("the direction is not the expected sender's"),
             Refusal::Checksum => f.write_str("the checksum differs"),
+            Refusal::Pad => f.write_str("the pad octet is not 01"),
             Refusal::Unnamed(number) => write!(f, "refusal number {number}"),
         }
     }
@@ -75,7 +91,10 @@ mod tests {
             (1, Refusal::Length),
             (2, Refusal::Region),
             (3, Refusal::Usage),
+            (4, Refusal::Header),
+            (5, Refusal::Direction),
             (6, Refusal::Checksum),
+            (7, Refusal::Pad),
         ] {
             assert_eq!(Refusal::check(number), Err(refusal));
             assert_eq!(refusal.number(), number);
@@ -84,7 +103,7 @@ mod tests {
 
     #[test]
     fn a_number_without_a_name_is_kept_as_it_is() {
-        for number in [4, 5, 7, 8, 256, u32::MAX] {
+        for number in [8, 9, 255, 256, u32::MAX] {
             let refusal = Refusal::check(number).unwrap_err();
             assert_eq!(refusal, Refusal::Unnamed(number));
             assert_eq!(refusal.number(), number);

@@ -1,6 +1,6 @@
 //! The two strengths of encryption.
 
-/// How strong the key is that a message is encrypted under.
+/// How strong the key is that a message or a token is encrypted under.
 #[derive(Clone, Copy, Debug, PartialEq, Eq, Hash)]
 pub enum Strength {
     /// RC4-HMAC, encryption type 23: all 16 octets of the derived key.

@@ -26,7 +26,10 @@ fn refusals() -> Vec<(&'static str, usize)> {
         ("REFUSED_LENGTH", number(Refusal::Length)),
         ("REFUSED_REGION", number(Refusal::Region)),
         ("REFUSED_USAGE", number(Refusal::Usage)),
+        ("REFUSED_HEADER", number(Refusal::Header)),
+        ("REFUSED_DIRECTION", number(Refusal::Direction)),
         ("REFUSED_CHECKSUM", number(Refusal::Checksum)),
+        ("REFUSED_PAD", number(Refusal::Pad)),
     ]
 }
 
@@ -47,6 +50,11 @@ fn lengths() -> Vec<(&'static str, usize)> {
         ("ENCRYPTED_OVERHEAD", rc4hmac::ENCRYPTED_OVERHEAD),
         ("ENCRYPTED_MIN", limits::ENCRYPTED_MIN),
         ("ENCRYPTED_MAX", limits::ENCRYPTED_MAX),
+        ("MIC_LEN", rc4hmac::MIC_LEN),
+        ("WRAP_OVERHEAD", rc4hmac::WRAP_OVERHEAD),
+        ("WRAP_MESSAGE_OFFSET", rc4hmac::WRAP_MESSAGE_OFFSET),
+        ("WRAP_MIN", limits::WRAP_MIN),
+        ("WRAP_MAX", limits::WRAP_MAX),
     ]
 }
 

@@ -2,9 +2,16 @@
 //! the safe functions would not take. Nothing that is lent may overlap.
 
 // Each test file uses its own share of this module.
-#![allow(dead_code)]
+#![allow(dead_code, unused_imports)]
+
+mod tokens;
 
 use rc4hmac::raw;
+
+pub use tokens::{
+    context, mic_read, mic_read_with, mic_write, mic_write_with, wrap_open, wrap_open_with,
+    wrap_write, wrap_write_with, Flags,
+};
 
 use crate::reference::{Outcome, Terms};
 

@@ -44,6 +44,18 @@ impl Inputs {
         std::array::from_fn(|_| (self.next() >> 24) as u8)
     }
 
+    /// A sequence number.
+    pub fn sequence(&mut self) -> u32 {
+        self.next()
+    }
+
+    /// The octets somewhere in a longer buffer, and where they start.
+    pub fn around(&mut self, octets: &[u8]) -> (Vec<u8>, usize) {
+        let (before, after) = (self.number(0, 40), self.number(0, 40));
+        let buf = [&self.octets(before)[..], octets, &self.octets(after)].concat();
+        (buf, before)
+    }
+
     pub fn units(&mut self, len: usize) -> Vec<u16> {
         (0..len).map(|_| (self.next() >> 16) as u16).collect()
     }

@@ -1,6 +1,6 @@
-//! The second program: MD4, MD5, HMAC-MD5, RC4 and the keys, checksums and
-//! encrypted messages of RFC 4757 written from their published texts alone, for
-//! the library to be compared with, and the inputs for that.
+//! The second program: MD4, MD5, HMAC-MD5, RC4 and the keys, checksums,
+//! encrypted messages and tokens of RFC 4757 written from their published texts
+//! alone, for the library to be compared with, and the inputs for that.
 
 // Each test file uses its own share of this module.
 #![allow(dead_code, unused_imports)]
@@ -15,6 +15,8 @@ pub mod outcomes;
 mod padding;
 mod password;
 mod rc4;
+mod token;
+pub mod token_outcomes;
 mod usage;
 
 pub use checksum::checksum;
@@ -26,4 +28,8 @@ pub use message::{Terms, HEADER};
 pub use outcomes::{must_be_octets, Outcome};
 pub use password::password_key;
 pub use rc4::rc4;
+pub use token::{
+    Opening, TokenTerms, Wrap, CLEAR_HEADER, FRONT, MIC, MIC_HEADER, PAD, SEALED_HEADER,
+};
+pub use token_outcomes::Reading;
 pub use usage::{message_type, salt, USAGES};

@@ -33,7 +33,7 @@ impl Outcome {
         }
     }
 
-    fn done(len: usize, buf: &[u8], start: usize, octets: &[u8]) -> Outcome {
+    pub fn done(len: usize, buf: &[u8], start: usize, octets: &[u8]) -> Outcome {
         let mut buf = buf.to_vec();
         buf[start..][..octets.len()].copy_from_slice(octets);
         Outcome {
@@ -54,7 +54,7 @@ pub fn must_be_octets(octets: &[u8], expected: &[u8], what: impl fmt::Debug) {
 
 /// Whether `length` octets from `start` lie inside a buffer of `buf_len`, the
 /// sum as a whole number.
-fn is_inside(start: usize, length: usize, buf_len: usize) -> bool {
+pub fn is_inside(start: usize, length: usize, buf_len: usize) -> bool {
     start as u128 + length as u128 <= buf_len as u128
 }
 

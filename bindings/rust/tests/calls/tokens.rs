@@ -1,0 +1,194 @@
+//! The token calls on slices, and with any numbers for yes and no.
+
+use rc4hmac::{raw, Context, Sender, Strength};
+
+use super::LEN_BEFORE;
+use crate::reference::{Outcome, Reading, TokenTerms, Wrap};
+
+/// What a number holds before a call.
+const NUMBER_BEFORE: u32 = 0xa5a5_a5a5;
+
+/// The arguments for yes and no.
+#[derive(Clone, Copy, Debug)]
+pub struct Flags {
+    pub export_strength: u32,
+    pub acceptor: u32,
+    pub sealed: u32,
+}
+
+impl Flags {
+    fn of(terms: &TokenTerms) -> Flags {
+        Flags {
+            export_strength: terms.export.into(),
+            acceptor: terms.acceptor.into(),
+            sealed: 0,
+        }
+    }
+}
+
+/// The same terms for the safe functions.
+pub fn context(terms: &TokenTerms) -> Context {
+    let (strength, sender) = (terms.export, terms.acceptor);
+    Context {
+        key: terms.key,
+        strength: [Strength::Full, Strength::Export][usize::from(strength)],
+        sender: [Sender::Initiator, Sender::Acceptor][usize::from(sender)],
+    }
+}
+
+pub fn mic_write(
+    terms: &TokenTerms,
+    sequence: u32,
+    data: &[u8],
+    buf: &[u8],
+    start: usize,
+) -> Outcome {
+    mic_write_with(Flags::of(terms), &terms.key, sequence, data, buf, start)
+}
+
+pub fn mic_read(
+    terms: &TokenTerms,
+    data: &[u8],
+    buf: &[u8],
+    start: usize,
+    length: usize,
+) -> Reading {
+    mic_read_with(Flags::of(terms), &terms.key, data, buf, start, length)
+}
+
+/// The message stands in the buffer; that of `wrap` is not looked at.
+pub fn wrap_write(
+    terms: &TokenTerms,
+    wrap: &Wrap,
+    buf: &[u8],
+    start: usize,
+    message_len: usize,
+) -> Outcome {
+    let flags = Flags {
+        sealed: wrap.sealed.into(),
+        ..Flags::of(terms)
+    };
+    wrap_write_with(flags, &terms.key, wrap, buf, start, message_len)
+}
+
+pub fn wrap_open(terms: &TokenTerms, buf: &[u8], start: usize, length: usize) -> Reading {
+    wrap_open_with(Flags::of(terms), &terms.key, buf, start, length)
+}
+
+pub fn mic_write_with(
+    flags: Flags,
+    key: &[u8; 16],
+    sequence: u32,
+    data: &[u8],
+    buf: &[u8],
+    start: usize,
+) -> Outcome {
+    let (mut buf, mut len) = (buf.to_vec(), LEN_BEFORE);
+    // SAFETY: the tests lend areas that do not overlap, here and below.
+    let number = unsafe {
+        raw::rc4hmac_mic_write(
+            key,
+            flags.export_strength,
+            flags.acceptor,
+            sequence,
+            data.as_ptr(),
+            data.len(),
+            buf.as_mut_ptr(),
+            buf.len(),
+            start,
+            &mut len,
+        )
+    };
+    Outcome { number, len, buf }
+}
+
+pub fn mic_read_with(
+    flags: Flags,
+    key: &[u8; 16],
+    data: &[u8],
+    buf: &[u8],
+    start: usize,
+    length: usize,
+) -> Reading {
+    let (buf, mut sequence) = (buf.to_vec(), NUMBER_BEFORE);
+    let number = unsafe {
+        raw::rc4hmac_mic_read(
+            key,
+            flags.export_strength,
+            flags.acceptor,
+            data.as_ptr(),
+            data.len(),
+            buf.as_ptr(),
+            buf.len(),
+            start,
+            length,
+            &mut sequence,
+        )
+    };
+    Reading {
+        number,
+        sequence,
+        sealed: 0,
+        len: 0,
+        buf,
+    }
+}
+
+pub fn wrap_write_with(
+    flags: Flags,
+    key: &[u8; 16],
+    wrap: &Wrap,
+    buf: &[u8],
+    start: usize,
+    message_len: usize,
+) -> Outcome {
+    let (mut buf, mut len) = (buf.to_vec(), LEN_BEFORE);
+    let number = unsafe {
+        raw::rc4hmac_wrap_write(
+            key,
+            flags.export_strength,
+            flags.acceptor,
+            wrap.sequence,
+            &wrap.confounder,
+            flags.sealed,
+            buf.as_mut_ptr(),
+            buf.len(),
+            start,
+            message_len,
+            &mut len,
+        )
+    };
+    Outcome { number, len, buf }
+}
+
+pub fn wrap_open_with(
+    flags: Flags,
+    key: &[u8; 16],
+    buf: &[u8],
+    start: usize,
+    length: usize,
+) -> Reading {
+    let mut buf = buf.to_vec();
+    let (mut sequence, mut sealed, mut len) = (NUMBER_BEFORE, NUMBER_BEFORE, LEN_BEFORE);
+    let number = unsafe {
+        raw::rc4hmac_wrap_open(
+            key,
+            flags.export_strength,
+            flags.acceptor,
+            buf.as_mut_ptr(),
+            buf.len(),
+            start,
+            length,
+            &mut sequence,
+            &mut sealed,
+            &mut len,
+        )
+    };
+    Reading {
+        number,
+        sequence,
+        sealed,
+        len,
+        buf,
+    }
+}

@@ -34,22 +34,13 @@ fn compare(inputs: &mut Inputs, terms: &TokenTerms, wrap: &Wrap) {
     calls::wrap_open(terms, &expected.buf, start, len + 33).must_be(&opened, what);
 }
 
-fn wrap(inputs: &mut Inputs, sealed: bool, len: usize) -> Wrap {
-    Wrap {
-        sequence: inputs.sequence(),
-        confounder: inputs.array(),
-        sealed,
-        message: inputs.octets(len),
-    }
-}
-
 #[test]
 fn tokens_of_every_length_to_300_are_the_references() {
     let mut inputs = Inputs::new(211);
     for terms in TokenTerms::all(&mut inputs) {
         for sealed in [false, true] {
             for len in 0..=300 {
-                let wrap = wrap(&mut inputs, sealed, len);
+                let wrap = Wrap::new(&mut inputs, sealed, len);
                 compare(&mut inputs, &terms, &wrap);
                 let sequence = SEQUENCES[len % 4];
                 compare(&mut inputs, &terms, &Wrap { sequence, ..wrap });
@@ -69,7 +60,7 @@ fn tokens_of_long_messages_are_the_references() {
                 32_767,
                 32_768,
             ] {
-                let wrap = wrap(&mut inputs, sealed, len);
+                let wrap = Wrap::new(&mut inputs, sealed, len);
                 compare(&mut inputs, &terms, &wrap);
             }
         }
@@ -83,7 +74,7 @@ fn tokens_of_every_bit_of_the_number_are_the_references() {
         for sequence in (0..32).map(|bit| 1 << bit).chain(SEQUENCES) {
             for len in [0, 5, 43, 44, 100] {
                 for sealed in [false, true] {
-                    let wrap = wrap(&mut inputs, sealed, len);
+                    let wrap = Wrap::new(&mut inputs, sealed, len);
                     compare(&mut inputs, &terms, &Wrap { sequence, ..wrap });
                 }
             }
@@ -159,7 +150,7 @@ fn the_octets_around_the_message_do_not_reach_the_token() {
     let mut inputs = Inputs::new(216);
     for terms in TokenTerms::all(&mut inputs) {
         for (sealed, len) in [(false, 0), (true, 0), (false, 40), (true, 40)] {
-            let wrap = wrap(&mut inputs, sealed, len);
+            let wrap = Wrap::new(&mut inputs, sealed, len);
             let token = terms.wrap(&wrap);
             for around in [[0x00; FRONT + 1], [0xff; FRONT + 1], inputs.array()] {
                 let buf = [&around[..FRONT], &wrap.message, &around[FRONT..]].concat();
@@ -176,7 +167,7 @@ fn an_empty_message_is_33_octets_with_its_pad_and_comes_back_empty() {
     let mut inputs = Inputs::new(217);
     for terms in TokenTerms::all(&mut inputs) {
         for sealed in [false, true] {
-            let wrap = wrap(&mut inputs, sealed, 0);
+            let wrap = Wrap::new(&mut inputs, sealed, 0);
             let written = calls::wrap_write(&terms, &wrap, &[0; 33], 0, 0);
             assert_eq!((written.number, written.len), (0, 33));
             let opened = calls::wrap_open(&terms, &written.buf, 0, 33);
@@ -194,7 +185,7 @@ fn a_clear_token_opens_as_it_stands() {
     let mut inputs = Inputs::new(218);
     for terms in TokenTerms::all(&mut inputs) {
         for len in [0, 1, 40, 1000] {
-            let wrap = wrap(&mut inputs, false, len);
+            let wrap = Wrap::new(&mut inputs, false, len);
             let token = terms.wrap(&wrap);
             must_be_octets(&token[24..32], &wrap.confounder, len);
             must_be_octets(&token[32..32 + len], &wrap.message, len);
@@ -212,7 +203,7 @@ fn the_safe_functions_write_and_open_the_references_tokens() {
         let context = context(&terms);
         for sealed in [false, true] {
             for len in [0, 1, 60, 300, 32_768] {
-                let wrap = wrap(&mut inputs, sealed, len);
+                let wrap = Wrap::new(&mut inputs, sealed, len);
                 let (sequence, confounder) = (wrap.sequence, &wrap.confounder);
                 let mut buf = [&[0x5a; 5 + FRONT], &wrap.message[..], &[0x5a; 3]].concat();
                 let token = [&[0x5a; 5], &terms.wrap(&wrap)[..], &[0x5a; 2]].concat();
@@ -258,10 +249,10 @@ fn tokens_take_a_confounder_that_shares_octets_with_the_key() {
 
 #[test]
 fn several_tokens_stand_side_by_side_in_one_buffer() {
-    let mut inputs = Inputs::new(221);
+    let mut inputs = Inputs::new(230);
     let [terms, ..] = TokenTerms::all(&mut inputs);
     let wraps: Vec<Wrap> = (0..5)
-        .map(|i| wrap(&mut inputs, i % 2 == 0, 10 * i))
+        .map(|i| Wrap::new(&mut inputs, i % 2 == 0, 10 * i))
         .collect();
     let tokens: Vec<Vec<u8>> = wraps.iter().map(|wrap| terms.wrap(wrap)).collect();
     let mut buf = tokens.concat();

@@ -39,6 +39,16 @@ pub struct Opening {
 }
 
 impl Wrap {
+    /// A message of this length, a confounder and a number, all at random.
+    pub fn new(inputs: &mut Inputs, sealed: bool, len: usize) -> Wrap {
+        Wrap {
+            sequence: inputs.sequence(),
+            confounder: inputs.array(),
+            sealed,
+            message: inputs.octets(len),
+        }
+    }
+
     pub fn header(&self) -> [u8; 8] {
         if self.sealed {
             SEALED_HEADER
@@ -48,7 +58,7 @@ impl Wrap {
     }
 
     /// Confounder, message and, in the pad's place, `last`.
-    fn plain(&self, last: u8) -> Vec<u8> {
+    pub fn plain(&self, last: u8) -> Vec<u8> {
         [&self.confounder, &self.message[..], &[last]].concat()
     }
 }
@@ -118,7 +128,7 @@ impl TokenTerms {
     }
 
     /// Octets 0 to 23. SND_SEQ comes out right even if the checksum is not.
-    fn first_24(&self, header: &[u8; 8], sequence: u32, sgn_cksum: &[u8; 8]) -> Vec<u8> {
+    pub fn first_24(&self, header: &[u8; 8], sequence: u32, sgn_cksum: &[u8; 8]) -> Vec<u8> {
         let send_seq = rc4(&self.kseq(sgn_cksum), &self.plain_send_seq(sequence));
         [&header[..], &send_seq, sgn_cksum].concat()
     }

@@ -1,0 +1,136 @@
+//! Tokens with another SGN_CKSUM, under which SND_SEQ and the body come out
+//! right: nothing but the comparison of the whole checksum finds it, with 6.
+
+mod calls;
+mod reference;
+
+use reference::{hmac_md5, md5, Inputs, Reading, TokenTerms, Wrap, MIC_HEADER, PAD};
+
+const LENS: [usize; 3] = [0, 5, 60];
+
+#[track_caller]
+fn check_mic(terms: &TokenTerms, data: &[u8], sgn_cksum: &[u8; 8]) {
+    let token = terms.mic_with(0x0102_0304, sgn_cksum);
+    let reading = calls::mic_read(terms, data, &token, 0, 24);
+    reading.must_be(&Reading::refused(6, &token), (terms.name(), data.len()));
+}
+
+#[track_caller]
+fn check_wrap(terms: &TokenTerms, wrap: &Wrap, last: u8, sgn_cksum: &[u8; 8]) {
+    let token = terms.wrap_with(wrap, last, sgn_cksum);
+    let reading = calls::wrap_open(terms, &token, 0, token.len());
+    let what = (terms.name(), wrap.sealed, wrap.message.len());
+    reading.must_be(&Reading::refused(6, &token), what);
+}
+
+/// The right one with one bit turned, with several, or another altogether.
+fn wrong_ones(inputs: &mut Inputs, right: [u8; 8]) -> Vec<[u8; 8]> {
+    let mut wrong = vec![[0x00; 8], [0xff; 8], inputs.array(), inputs.array()];
+    wrong.extend((0..64).map(|bit| (u64::from_be_bytes(right) ^ 1 << bit).to_be_bytes()));
+    for at in 0..8 {
+        let mut octets = right;
+        octets[at] ^= 0xff;
+        wrong.push(octets);
+        octets.reverse();
+        wrong.push(octets);
+    }
+    wrong
+}
+
+#[test]
+fn every_bit_of_a_mics_checksum_is_compared() {
+    let mut inputs = Inputs::new(241);
+    for terms in TokenTerms::all(&mut inputs) {
+        for len in LENS {
+            let data = inputs.octets(len);
+            let right = terms.sgn_cksum(&MIC_HEADER, &data);
+            for wrong in wrong_ones(&mut inputs, right) {
+                check_mic(&terms, &data, &wrong);
+            }
+            let token = terms.mic_with(0x0102_0304, &right);
+            let reading = calls::mic_read(&terms, &data, &token, 0, 24);
+            assert_eq!(reading.answer(), (0, 0x0102_0304, 0, 0));
+        }
+    }
+}
+
+#[test]
+fn every_bit_of_a_wrap_tokens_checksum_is_compared() {
+    let mut inputs = Inputs::new(242);
+    for terms in TokenTerms::all(&mut inputs) {
+        for sealed in [false, true] {
+            for len in LENS {
+                let wrap = Wrap::new(&mut inputs, sealed, len);
+                let right = terms.wrap_cksum(&wrap, PAD);
+                for wrong in wrong_ones(&mut inputs, right) {
+                    check_wrap(&terms, &wrap, PAD, &wrong);
+                }
+                let token = terms.wrap_with(&wrap, PAD, &right);
+                let reading = calls::wrap_open(&terms, &token, 0, token.len());
+                let answer = (0, wrap.sequence, sealed.into(), len);
+                assert_eq!(reading.answer(), answer);
+            }
+        }
+    }
+}
+
+#[test]
+fn a_long_sealed_token_with_another_checksum_is_left_sealed() {
+    let mut inputs = Inputs::new(243);
+    for terms in TokenTerms::all(&mut inputs) {
+        let wrap = Wrap::new(&mut inputs, true, 32_768);
+        let mut wrong = terms.wrap_cksum(&wrap, PAD);
+        wrong[7] ^= 0x80;
+        check_wrap(&terms, &wrap, PAD, &wrong);
+    }
+}
+
+/// A checksum of the right octets by another rule: the last eight of the HMAC,
+/// none of MD5, the message type 13, the header of the other kind.
+#[test]
+fn checksums_by_other_rules_are_refused_with_6() {
+    let mut inputs = Inputs::new(244);
+    for terms in TokenTerms::all(&mut inputs) {
+        let ksign = hmac_md5(&terms.key, b"signaturekey\0");
+        for sealed in [false, true] {
+            let wrap = Wrap::new(&mut inputs, sealed, 20);
+            let header = wrap.header();
+            let signed =
+                |kind: u32, header: &[u8]| [&kind.to_le_bytes(), header, &wrap.plain(PAD)].concat();
+            let eight = |octets: &[u8]| octets.try_into().unwrap();
+            let whole = hmac_md5(&ksign, &md5(&signed(15, &header)));
+            assert_eq!(terms.wrap_cksum(&wrap, PAD), whole[..8]);
+            for wrong in [
+                whole,
+                hmac_md5(&terms.key, &md5(&signed(15, &header))),
+                hmac_md5(&ksign, &signed(15, &header)),
+                hmac_md5(&ksign, &md5(&signed(13, &header))),
+                hmac_md5(&ksign, &md5(&signed(15 << 24, &header))),
+                hmac_md5(&ksign, &md5(&signed(15, &MIC_HEADER))),
+                hmac_md5(&ksign, &md5(&signed(15, &[]))),
+            ] {
+                check_wrap(&terms, &wrap, PAD, &eight(&wrong[8..]));
+                if wrong != whole {
+                    check_wrap(&terms, &wrap, PAD, &eight(&wrong[..8]));
+                }
+            }
+        }
+    }
+}
+
+/// The checksum decides before the pad does.
+#[test]
+fn another_checksum_and_another_pad_are_refused_with_6() {
+    let mut inputs = Inputs::new(245);
+    for terms in TokenTerms::all(&mut inputs) {
+        for sealed in [false, true] {
+            let wrap = Wrap::new(&mut inputs, sealed, 20);
+            for last in [0x00, 0x02, 0xff] {
+                let mut wrong = terms.wrap_cksum(&wrap, last);
+                wrong[3] ^= 0x10;
+                check_wrap(&terms, &wrap, last, &wrong);
+                check_wrap(&terms, &wrap, last, &terms.wrap_cksum(&wrap, PAD));
+            }
+        }
+    }
+}

@@ -1,0 +1,189 @@
+//! Which refusal of a token call is given where several apply: the lowest
+//! number, for every set of faults. Each call leaves every octet and writes
+//! zeros.
+
+mod calls;
+mod reference;
+
+use reference::{Inputs, Outcome, Reading, TokenTerms, Wrap, MIC_HEADER, PAD};
+
+/// Every set of `N` faults, each there or not.
+fn fault_sets<const N: usize>() -> impl Iterator<Item = [bool; N]> {
+    (0..1 << N).map(|set: u32| std::array::from_fn(|fault| set >> fault & 1 == 1))
+}
+
+/// The number of the first fault that is there.
+fn first<const N: usize>(numbers: [u32; N], faults: [bool; N]) -> u32 {
+    let mut numbers = numbers.into_iter().zip(faults);
+    numbers
+        .find(|(_, there)| *there)
+        .map_or(0, |(number, _)| number)
+}
+
+/// Starts outside a buffer of 40,000 octets; with the lengths here some sums
+/// come out small if they wrap.
+const WRONG_STARTS: [usize; 5] = [40_000, 40_001, usize::MAX, usize::MAX - 23, usize::MAX - 63];
+
+#[test]
+fn the_writers_are_refused_for_length_then_region() {
+    let mut inputs = Inputs::new(301);
+    let (buf, data) = (inputs.octets(40_000), inputs.octets(32_769));
+    for terms in TokenTerms::all(&mut inputs) {
+        for wrong_start in WRONG_STARTS {
+            for wrong_len in [32_769, 100_000, usize::MAX - 33, usize::MAX] {
+                for faults @ [length, region, sealed] in fault_sets() {
+                    let start = if region { wrong_start } else { 5 };
+                    let wrap = Wrap::new(&mut inputs, sealed, 0);
+                    let len = if length { wrong_len } else { 40 };
+                    let data = &data[..if length { 32_769 } else { 40 }];
+                    let what = (faults, wrong_start, wrong_len);
+                    // Sealed is no fault: the last number is none.
+                    let number = first([1, 2, 0], faults);
+                    for (outcome, written) in [
+                        (calls::wrap_write(&terms, &wrap, &buf, start, len), 73),
+                        (calls::mic_write(&terms, 1, data, &buf, start), 24),
+                    ] {
+                        if number == 0 {
+                            assert_eq!((outcome.number, outcome.len), (0, written));
+                        } else {
+                            outcome.must_be(&Outcome::refused(number, &buf), what);
+                        }
+                    }
+                }
+            }
+        }
+    }
+}
+
+/// Faults of a token, in the order of their refusals.
+#[derive(Clone, Copy, Debug)]
+struct Faults {
+    header: bool,
+    direction: bool,
+    checksum: bool,
+    pad: bool,
+}
+
+impl Faults {
+    /// A checksum, which is made wrong if it is to be.
+    fn checksum(&self, mut sgn_cksum: [u8; 8]) -> [u8; 8] {
+        sgn_cksum[6] ^= u8::from(self.checksum) << 5;
+        sgn_cksum
+    }
+
+    /// The terms that the token is written under.
+    fn writer(&self, reader: &TokenTerms) -> TokenTerms {
+        TokenTerms {
+            acceptor: reader.acceptor != self.direction,
+            ..*reader
+        }
+    }
+
+    /// Under a wrong checksum SND_SEQ and body come out right, so that each
+    /// fault is there or not whatever the others are.
+    fn wrap(&self, reader: &TokenTerms, wrap: &Wrap) -> Vec<u8> {
+        let last = if self.pad { 0x02 } else { PAD };
+        let writer = self.writer(reader);
+        let sgn_cksum = self.checksum(writer.wrap_cksum(wrap, last));
+        let mut token = writer.wrap_with(wrap, last, &sgn_cksum);
+        token[7] ^= u8::from(self.header);
+        token
+    }
+
+    fn mic(&self, reader: &TokenTerms, data: &[u8]) -> Vec<u8> {
+        let writer = self.writer(reader);
+        let sgn_cksum = self.checksum(writer.sgn_cksum(&MIC_HEADER, data));
+        let mut token = writer.mic_with(6, &sgn_cksum);
+        token[7] ^= u8::from(self.header);
+        token
+    }
+}
+
+#[test]
+fn wrap_open_is_refused_in_the_order_of_the_numbers() {
+    let mut inputs = Inputs::new(302);
+    let mut buf = inputs.octets(40_000);
+    for terms in TokenTerms::all(&mut inputs) {
+        for (wrong_start, wrong_len) in
+            WRONG_STARTS
+                .into_iter()
+                .zip([0, 32, 32_802, usize::MAX, 24])
+        {
+            for sealed in [false, true] {
+                for set @ [length, region, header, direction, checksum, pad] in fault_sets() {
+                    let wrap = Wrap::new(&mut inputs, sealed, 7);
+                    let faults = Faults {
+                        header,
+                        direction,
+                        checksum,
+                        pad,
+                    };
+                    buf[5..45].copy_from_slice(&faults.wrap(&terms, &wrap));
+                    let start = if region { wrong_start } else { 5 };
+                    let len = if length { wrong_len } else { 40 };
+                    let reading = calls::wrap_open(&terms, &buf, start, len);
+                    match first([1, 2, 4, 5, 6, 7], set) {
+                        0 => {
+                            let answer = (0, wrap.sequence, sealed.into(), 7);
+                            assert_eq!(reading.answer(), answer);
+                        }
+                        number => reading.must_be(&Reading::refused(number, &buf), set),
+                    }
+                }
+            }
+        }
+    }
+}
+
+#[test]
+fn mic_read_is_refused_in_the_order_of_the_numbers() {
+    let mut inputs = Inputs::new(303);
+    let (data, mut buf) = (inputs.octets(32_769), inputs.octets(40_000));
+    for terms in TokenTerms::all(&mut inputs) {
+        for (wrong_start, wrong_len) in WRONG_STARTS.into_iter().zip([0, 23, 25, 33, usize::MAX]) {
+            for set @ [length, long, region, header, direction, checksum] in fault_sets() {
+                let data = &data[..if long { 32_769 } else { 30 }];
+                let faults = Faults {
+                    header,
+                    direction,
+                    checksum,
+                    pad: false,
+                };
+                buf[5..29].copy_from_slice(&faults.mic(&terms, data));
+                let start = if region { wrong_start } else { 5 };
+                let len = if length { wrong_len } else { 24 };
+                let reading = calls::mic_read(&terms, data, &buf, start, len);
+                match first([1, 1, 2, 4, 5, 6], set) {
+                    0 => assert_eq!(reading.answer(), (0, 6, 0, 0)),
+                    number => reading.must_be(&Reading::refused(number, &buf), set),
+                }
+            }
+        }
+    }
+}
+
+/// A wrong key spoils the direction and the checksum at once, a wrong header
+/// octet the header and the checksum: the lower number is given.
+#[test]
+fn a_single_cause_of_several_refusals_gets_the_lowest() {
+    let mut inputs = Inputs::new(304);
+    for terms in TokenTerms::all(&mut inputs) {
+        for sealed in [false, true] {
+            let wrap = Wrap::new(&mut inputs, sealed, 20);
+            let other = TokenTerms {
+                key: inputs.array(),
+                ..terms
+            };
+            for last in [PAD, 0x00] {
+                let mut token = terms.wrap_ending(&wrap, last);
+                let opened = calls::wrap_open(&other, &token, 0, 53);
+                opened.must_be(&Reading::refused(5, &token), "another key");
+                token[0] = 0x01;
+                for reader in [terms, other] {
+                    let opened = calls::wrap_open(&reader, &token, 0, 53);
+                    opened.must_be(&Reading::refused(4, &token), "another header");
+                }
+            }
+        }
+    }
+}

@@ -9,6 +9,7 @@
 pub mod computed;
 pub mod krb5;
 pub mod rfc6229;
+pub mod tokens;
 
 /// The octets that a string of hexadecimal digits stands for.
 pub fn octets(hexadecimal: &str) -> Vec<u8> {

@@ -100,6 +100,41 @@ fn mic_read(
     }
 }
 
+fn wrap_write(buf: &mut [u8], sealed: u32, start: usize, len: usize, written: &mut usize) -> u32 {
+    unsafe {
+        raw::rc4hmac_wrap_write(
+            &[7; 16],
+            0,
+            0,
+            5,
+            &[1; 8],
+            sealed,
+            buf.as_mut_ptr(),
+            buf.len(),
+            start,
+            len,
+            written,
+        )
+    }
+}
+
+fn mic_write(data: &[u8], buf: &mut [u8], start: usize, written: &mut usize) -> u32 {
+    unsafe {
+        raw::rc4hmac_mic_write(
+            &[7; 16],
+            0,
+            0,
+            5,
+            data.as_ptr(),
+            data.len(),
+            buf.as_mut_ptr(),
+            buf.len(),
+            start,
+            written,
+        )
+    }
+}
+
 /// The refusal number, and a token, a start and a length that get it.
 fn refused_wraps(
     inputs: &mut Inputs,
@@ -176,10 +211,9 @@ fn a_refused_reading_of_a_mic_writes_zero_over_what_was_there() {
 #[test]
 fn a_refused_writing_writes_zero_over_what_was_there() {
     let mut inputs = Inputs::new(313);
-    let (terms, data) = (TokenTerms::all(&mut inputs)[0], inputs.octets(32_769));
-    let mut buf = inputs.octets(60);
-    let wrap_cases = [(1, 0, 32_769), (1, 0, usize::MAX), (2, 0, 28), (2, 61, 0)];
-    let mic_cases = [
+    let (mut buf, data) = (inputs.octets(60), inputs.octets(32_769));
+    let wraps = [(1, 0, 32_769), (1, 0, usize::MAX), (2, 0, 28), (2, 61, 0)];
+    let mics = [
         (1, 0, 32_769),
         (1, 61, 32_769),
         (2, 37, 4),
@@ -187,44 +221,15 @@ fn a_refused_writing_writes_zero_over_what_was_there() {
     ];
     for before in [1, 24, 33, usize::MAX] {
         for sealed in [0, 1] {
-            for (number, start, len) in wrap_cases {
+            for (number, start, len) in wraps {
                 let mut written = before;
-                let (at, room) = (buf.as_mut_ptr(), buf.len());
-                let answer = unsafe {
-                    raw::rc4hmac_wrap_write(
-                        &terms.key,
-                        0,
-                        0,
-                        5,
-                        &[1; 8],
-                        sealed,
-                        at,
-                        room,
-                        start,
-                        len,
-                        &mut written,
-                    )
-                };
+                let answer = wrap_write(&mut buf, sealed, start, len, &mut written);
                 assert_eq!((answer, written), (number, 0), "{before}");
             }
         }
-        for (number, start, len) in mic_cases {
+        for (number, start, len) in mics {
             let mut written = before;
-            let (at, room, data) = (buf.as_mut_ptr(), buf.len(), data.as_ptr());
-            let answer = unsafe {
-                raw::rc4hmac_mic_write(
-                    &terms.key,
-                    0,
-                    0,
-                    5,
-                    data,
-                    len,
-                    at,
-                    room,
-                    start,
-                    &mut written,
-                )
-            };
+            let answer = mic_write(&data[..len], &mut buf, start, &mut written);
             assert_eq!((answer, written), (number, 0), "{before}");
         }
     }

@@ -9,8 +9,9 @@ mod tokens;
 use rc4hmac::raw;
 
 pub use tokens::{
-    context, mic_read, mic_read_with, mic_write, mic_write_with, wrap_open, wrap_open_with,
-    wrap_write, wrap_write_with, Flags,
+    context, mic_read, mic_read_in_place, mic_read_with, mic_write, mic_write_in_place,
+    mic_write_with, wrap_open, wrap_open_in_place, wrap_open_with, wrap_write, wrap_write_in_place,
+    wrap_write_with, Flags,
 };
 
 use crate::reference::{Outcome, Terms};

@@ -17,7 +17,8 @@ pub struct Flags {
 }
 
 impl Flags {
-    fn of(terms: &TokenTerms) -> Flags {
+    /// For a token that is not sealed.
+    pub fn of(terms: &TokenTerms) -> Flags {
         Flags {
             export_strength: terms.export.into(),
             acceptor: terms.acceptor.into(),
@@ -83,22 +84,8 @@ pub fn mic_write_with(
     buf: &[u8],
     start: usize,
 ) -> Outcome {
-    let (mut buf, mut len) = (buf.to_vec(), LEN_BEFORE);
-    // SAFETY: the tests lend areas that do not overlap, here and below.
-    let number = unsafe {
-        raw::rc4hmac_mic_write(
-            key,
-            flags.export_strength,
-            flags.acceptor,
-            sequence,
-            data.as_ptr(),
-            data.len(),
-            buf.as_mut_ptr(),
-            buf.len(),
-            start,
-            &mut len,
-        )
-    };
+    let mut buf = buf.to_vec();
+    let (number, len) = mic_write_in_place(flags, key, sequence, data, &mut buf, start);
     Outcome { number, len, buf }
 }
 
@@ -110,21 +97,8 @@ pub fn mic_read_with(
     start: usize,
     length: usize,
 ) -> Reading {
-    let (buf, mut sequence) = (buf.to_vec(), NUMBER_BEFORE);
-    let number = unsafe {
-        raw::rc4hmac_mic_read(
-            key,
-            flags.export_strength,
-            flags.acceptor,
-            data.as_ptr(),
-            data.len(),
-            buf.as_ptr(),
-            buf.len(),
-            start,
-            length,
-            &mut sequence,
-        )
-    };
+    let buf = buf.to_vec();
+    let (number, sequence) = mic_read_in_place(flags, key, data, &buf, start, length);
     Reading {
         number,
         sequence,
@@ -142,22 +116,17 @@ pub fn wrap_write_with(
     start: usize,
     message_len: usize,
 ) -> Outcome {
-    let (mut buf, mut len) = (buf.to_vec(), LEN_BEFORE);
-    let number = unsafe {
-        raw::rc4hmac_wrap_write(
-            key,
-            flags.export_strength,
-            flags.acceptor,
-            wrap.sequence,
-            &wrap.confounder,
-            flags.sealed,
-            buf.as_mut_ptr(),
-            buf.len(),
-            start,
-            message_len,
-            &mut len,
-        )
-    };
+    let mut buf = buf.to_vec();
+    let (sequence, confounder) = (wrap.sequence, &wrap.confounder);
+    let (number, len) = wrap_write_in_place(
+        flags,
+        key,
+        sequence,
+        confounder,
+        &mut buf,
+        start,
+        message_len,
+    );
     Outcome { number, len, buf }
 }
 
@@ -169,6 +138,108 @@ pub fn wrap_open_with(
     length: usize,
 ) -> Reading {
     let mut buf = buf.to_vec();
+    let (number, sequence, sealed, len) = wrap_open_in_place(flags, key, &mut buf, start, length);
+    Reading {
+        number,
+        sequence,
+        sealed,
+        len,
+        buf,
+    }
+}
+
+/// The refusal number and the length written.
+pub fn mic_write_in_place(
+    flags: Flags,
+    key: &[u8; 16],
+    sequence: u32,
+    data: &[u8],
+    buf: &mut [u8],
+    start: usize,
+) -> (u32, usize) {
+    let mut written = LEN_BEFORE;
+    // SAFETY: the tests lend areas that do not overlap, here and below.
+    let number = unsafe {
+        raw::rc4hmac_mic_write(
+            key,
+            flags.export_strength,
+            flags.acceptor,
+            sequence,
+            data.as_ptr(),
+            data.len(),
+            buf.as_mut_ptr(),
+            buf.len(),
+            start,
+            &mut written,
+        )
+    };
+    (number, written)
+}
+
+/// The refusal number and the sequence number.
+pub fn mic_read_in_place(
+    flags: Flags,
+    key: &[u8; 16],
+    data: &[u8],
+    buf: &[u8],
+    start: usize,
+    length: usize,
+) -> (u32, u32) {
+    let mut sequence = NUMBER_BEFORE;
+    let number = unsafe {
+        raw::rc4hmac_mic_read(
+            key,
+            flags.export_strength,
+            flags.acceptor,
+            data.as_ptr(),
+            data.len(),
+            buf.as_ptr(),
+            buf.len(),
+            start,
+            length,
+            &mut sequence,
+        )
+    };
+    (number, sequence)
+}
+
+/// The refusal number and the length written.
+pub fn wrap_write_in_place(
+    flags: Flags,
+    key: &[u8; 16],
+    sequence: u32,
+    confounder: &[u8; 8],
+    buf: &mut [u8],
+    start: usize,
+    message_len: usize,
+) -> (u32, usize) {
+    let mut written = LEN_BEFORE;
+    let number = unsafe {
+        raw::rc4hmac_wrap_write(
+            key,
+            flags.export_strength,
+            flags.acceptor,
+            sequence,
+            confounder,
+            flags.sealed,
+            buf.as_mut_ptr(),
+            buf.len(),
+            start,
+            message_len,
+            &mut written,
+        )
+    };
+    (number, written)
+}
+
+/// The refusal number, the sequence number, sealed and the message's length.
+pub fn wrap_open_in_place(
+    flags: Flags,
+    key: &[u8; 16],
+    buf: &mut [u8],
+    start: usize,
+    length: usize,
+) -> (u32, u32, u32, usize) {
     let (mut sequence, mut sealed, mut len) = (NUMBER_BEFORE, NUMBER_BEFORE, LEN_BEFORE);
     let number = unsafe {
         raw::rc4hmac_wrap_open(
@@ -184,11 +255,5 @@ pub fn wrap_open_with(
             &mut len,
         )
     };
-    Reading {
-        number,
-        sequence,
-        sealed,
-        len,
-        buf,
-    }
+    (number, sequence, sealed, len)
 }

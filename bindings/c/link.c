@@ -1,6 +1,6 @@
-/* Links librc4hmac.a from C: one vector and one refusal of each function of
- * rc4hmac.h. A vector whose source is not named was computed with OpenSSL (RC4)
- * and Python (MD5, HMAC). */
+/* Links librc4hmac.a from C: a vector and a refusal, or more, of each function
+ * of rc4hmac.h. A vector whose source is not named was computed with OpenSSL
+ * (RC4) and Python (MD5, HMAC). */
 
 #include <stdio.h>
 #include <string.h>
@@ -307,6 +307,256 @@ static void check_round_trip(uint32_t export_strength, const char *what)
               && all_are(buf + 30 + written, sizeof buf - 30 - written, 0x5a));
 }
 
+/* For tokens: the key, the confounder and the sequence number. */
+static const uint8_t token_key[RC4HMAC_KEY_LEN] = {
+    0, 1, 2, 3, 4, 5, 6, 7, 8, 9, 10, 11, 12, 13, 14, 15
+};
+static const uint8_t token_confounder[RC4HMAC_CONFOUNDER_LEN] = {
+    0xc0, 0xc1, 0xc2, 0xc3, 0xc4, 0xc5, 0xc6, 0xc7
+};
+#define TOKEN_SEQUENCE 16909060u
+
+/* The initiator's MIC of "kiln", full strength. */
+static const uint8_t mic[RC4HMAC_MIC_LEN] = {
+    0x01, 0x01, 0x11, 0x00, 0xff, 0xff, 0xff, 0xff,
+    0xcc, 0xee, 0x6e, 0x73, 0xee, 0xe0, 0xcf, 0xbc,
+    0x46, 0x99, 0x10, 0xab, 0x92, 0x7e, 0xb0, 0x22
+};
+
+/* The acceptor's sealed token of "kiln", export strength. */
+static const uint8_t sealed_token[RC4HMAC_WRAP_OVERHEAD + 4u] = {
+    0x02, 0x01, 0x11, 0x00, 0x10, 0x00, 0xff, 0xff,
+    0x80, 0xac, 0xe4, 0x0c, 0xd6, 0xe7, 0x44, 0x7f,
+    0x64, 0x37, 0xed, 0xe3, 0xd8, 0xa0, 0x2f, 0x51,
+    0xc9, 0x98, 0xe2, 0xe8, 0xe5, 0x19, 0x1d, 0x24,
+    0x73, 0x49, 0xbb, 0x6e, 0x6c
+};
+
+/* The initiator's sealed token of "kiln", full strength, signed with 02 where
+ * the pad 01 stands. */
+static const uint8_t other_pad[RC4HMAC_WRAP_OVERHEAD + 4u] = {
+    0x02, 0x01, 0x11, 0x00, 0x10, 0x00, 0xff, 0xff,
+    0x90, 0x63, 0x77, 0x7f, 0x70, 0x96, 0xb8, 0x17,
+    0xbb, 0xa7, 0x70, 0x43, 0x09, 0x73, 0x25, 0x24,
+    0x83, 0xe7, 0x24, 0xde, 0x78, 0xfa, 0x9e, 0xcd,
+    0x44, 0x72, 0x18, 0x9b, 0x8c
+};
+
+static void check_mic_write(void)
+{
+    uint8_t buf[RC4HMAC_MIC_LEN + 2u];
+    size_t written = 99;
+    uint32_t answer;
+
+    memset(buf, 0x5a, sizeof buf);
+    answer = rc4hmac_mic_write(token_key, 0, 0, TOKEN_SEQUENCE,
+                               (const uint8_t *)"kiln", 4,
+                               buf, sizeof buf, 1, &written);
+    check("MIC of \"kiln\"",
+          answer == RC4HMAC_DONE && written == RC4HMAC_MIC_LEN
+              && memcmp(buf + 1, mic, sizeof mic) == 0
+              && buf[0] == 0x5a && buf[sizeof buf - 1] == 0x5a);
+
+    memset(buf, 0x5a, sizeof buf);
+    answer = rc4hmac_mic_write(token_key, 0, 0, TOKEN_SEQUENCE,
+                               (const uint8_t *)"kiln", 4,
+                               buf, sizeof buf, 3, &written);
+    check("a MIC one octet past the buffer is refused",
+          answer == RC4HMAC_REFUSED_REGION && written == 0
+              && all_are(buf, sizeof buf, 0x5a));
+
+    written = 99;
+    answer = rc4hmac_mic_write(token_key, 0, 0, TOKEN_SEQUENCE,
+                               too_long, RC4HMAC_MESSAGE_MAX + 1u,
+                               buf, sizeof buf, 3, &written);
+    check("a MIC of data one octet too long is refused",
+          answer == RC4HMAC_REFUSED_LENGTH && written == 0
+              && all_are(buf, sizeof buf, 0x5a));
+}
+
+/* Reads a MIC, which stays as it is, for the data and the sender. */
+static void check_mic_read(const char *what, const uint8_t *token,
+                           const char *data, uint32_t acceptor,
+                           uint32_t expected, uint32_t expected_sequence)
+{
+    uint8_t buf[RC4HMAC_MIC_LEN];
+    uint32_t sequence = 99;
+    uint32_t answer;
+
+    memcpy(buf, token, sizeof buf);
+    answer = rc4hmac_mic_read(token_key, 0, acceptor,
+                              (const uint8_t *)data, strlen(data),
+                              buf, sizeof buf, 0, sizeof buf, &sequence);
+    check(what,
+          answer == expected && sequence == expected_sequence
+              && memcmp(buf, token, sizeof buf) == 0);
+}
+
+static void check_mic_reads(void)
+{
+    uint8_t other[RC4HMAC_MIC_LEN];
+    uint32_t sequence = 99;
+    uint32_t answer;
+
+    check_mic_read("MIC of \"kiln\" is read", mic, "kiln", 0,
+                   RC4HMAC_DONE, TOKEN_SEQUENCE);
+    check_mic_read("a MIC of other data is refused", mic, "kilt", 0,
+                   RC4HMAC_REFUSED_CHECKSUM, 0);
+    check_mic_read("a MIC from another sender is refused", mic, "kiln", 1,
+                   RC4HMAC_REFUSED_DIRECTION, 0);
+    check_mic_read("a Wrap token is no MIC", sealed_token, "kiln", 0,
+                   RC4HMAC_REFUSED_HEADER, 0);
+
+    memcpy(other, mic, sizeof other);
+    other[11] ^= 1;
+    check_mic_read("a MIC with another number is read with it", other, "kiln",
+                   0, RC4HMAC_DONE, TOKEN_SEQUENCE ^ 1u);
+
+    answer = rc4hmac_mic_read(token_key, 0, 0, (const uint8_t *)"kiln", 4,
+                              mic, sizeof mic, 0, sizeof mic - 1, &sequence);
+    check("a MIC one octet too short is refused",
+          answer == RC4HMAC_REFUSED_LENGTH && sequence == 0);
+}
+
+static void check_wrap_write(void)
+{
+    uint8_t buf[sizeof sealed_token];
+    size_t written = 99;
+    uint32_t answer;
+
+    memset(buf, 0x5a, sizeof buf);
+    memcpy(buf + RC4HMAC_WRAP_MESSAGE_OFFSET, "kiln", 4);
+    answer = rc4hmac_wrap_write(token_key, 1, 1, TOKEN_SEQUENCE,
+                                token_confounder, 1,
+                                buf, sizeof buf, 0, 4, &written);
+    check("sealed token of \"kiln\", export strength",
+          answer == RC4HMAC_DONE && written == sizeof sealed_token
+              && memcmp(buf, sealed_token, sizeof buf) == 0);
+
+    memset(buf, 0x5a, sizeof buf);
+    answer = rc4hmac_wrap_write(token_key, 1, 1, TOKEN_SEQUENCE,
+                                token_confounder, 1,
+                                buf, sizeof buf, 0, 5, &written);
+    check("a token one octet past the buffer is refused",
+          answer == RC4HMAC_REFUSED_REGION && written == 0
+              && all_are(buf, sizeof buf, 0x5a));
+
+    written = 99;
+    answer = rc4hmac_wrap_write(token_key, 1, 1, TOKEN_SEQUENCE,
+                                token_confounder, 1, buf, sizeof buf,
+                                0, RC4HMAC_MESSAGE_MAX + 1u, &written);
+    check("a message one octet too long is refused",
+          answer == RC4HMAC_REFUSED_LENGTH && written == 0
+              && all_are(buf, sizeof buf, 0x5a));
+}
+
+/* A token of 37 octets that is refused: it stays as it is, and every answer
+ * is zero. */
+static void check_refused(const char *what, const uint8_t *token,
+                          uint32_t export_strength, uint32_t acceptor,
+                          size_t length, uint32_t expected)
+{
+    uint8_t buf[sizeof sealed_token];
+    uint32_t sequence = 99, sealed = 99;
+    size_t message_len = 99;
+    uint32_t answer;
+
+    memcpy(buf, token, sizeof buf);
+    answer = rc4hmac_wrap_open(token_key, export_strength, acceptor,
+                               buf, sizeof buf, 0, length,
+                               &sequence, &sealed, &message_len);
+    check(what,
+          answer == expected && sequence == 0 && sealed == 0
+              && message_len == 0 && memcmp(buf, token, sizeof buf) == 0);
+}
+
+static void check_wrap_open(void)
+{
+    uint8_t buf[sizeof sealed_token];
+    uint32_t sequence = 99, sealed = 99;
+    size_t message_len = 99;
+    uint32_t answer;
+
+    memcpy(buf, sealed_token, sizeof buf);
+    answer = rc4hmac_wrap_open(token_key, 1, 1, buf, sizeof buf,
+                               0, sizeof buf,
+                               &sequence, &sealed, &message_len);
+    check("sealed token of \"kiln\" opens",
+          answer == RC4HMAC_DONE && sequence == TOKEN_SEQUENCE
+              && sealed == 1 && message_len == 4
+              && memcmp(buf, sealed_token, 24) == 0
+              && memcmp(buf + 24, token_confounder, 8) == 0
+              && memcmp(buf + RC4HMAC_WRAP_MESSAGE_OFFSET, "kiln\001", 5) == 0);
+}
+
+static void check_wrap_refusals(void)
+{
+    uint8_t buf[sizeof sealed_token];
+
+    memcpy(buf, sealed_token, sizeof buf);
+    buf[5] = 0xff;
+    check_refused("another header is refused", buf, 1, 1, sizeof buf,
+                  RC4HMAC_REFUSED_HEADER);
+
+    memcpy(buf, sealed_token, sizeof buf);
+    buf[34] ^= 0x10;
+    check_refused("a damaged token is refused and left", buf, 1, 1, sizeof buf,
+                  RC4HMAC_REFUSED_CHECKSUM);
+
+    check_refused("a token from another sender is refused", sealed_token, 1, 0,
+                  sizeof sealed_token, RC4HMAC_REFUSED_DIRECTION);
+    check_refused("a token of the other strength is refused", sealed_token,
+                  0, 1, sizeof sealed_token, RC4HMAC_REFUSED_DIRECTION);
+    check_refused("a token of 32 octets is refused", sealed_token, 1, 1,
+                  RC4HMAC_WRAP_MIN - 1u, RC4HMAC_REFUSED_LENGTH);
+    check_refused("a token past the buffer is refused", sealed_token, 1, 1,
+                  sizeof sealed_token + 1u, RC4HMAC_REFUSED_REGION);
+    check_refused("a token with another pad is refused and left", other_pad,
+                  0, 0, sizeof other_pad, RC4HMAC_REFUSED_PAD);
+}
+
+/* The token stands between octets that are no part of it. */
+static void check_token_round_trip(uint32_t flag, uint32_t sealed,
+                                   size_t message_len, const char *what)
+{
+    static const char message[] = "a record";
+    uint8_t buf[100];
+    uint32_t sequence = 99, opened_sealed = 99;
+    size_t written = 99, opened_len = 99;
+    uint32_t wrapped, opened;
+
+    memset(buf, 0x5a, sizeof buf);
+    memcpy(buf + 30 + RC4HMAC_WRAP_MESSAGE_OFFSET, message, message_len);
+    wrapped = rc4hmac_wrap_write(token_key, flag, flag, 0xfffffffeu,
+                                 token_confounder, sealed, buf, sizeof buf,
+                                 30, message_len, &written);
+    opened = rc4hmac_wrap_open(token_key, flag, flag, buf, sizeof buf,
+                               30, written,
+                               &sequence, &opened_sealed, &opened_len);
+    check(what,
+          wrapped == RC4HMAC_DONE && opened == RC4HMAC_DONE
+              && written == RC4HMAC_WRAP_OVERHEAD + message_len
+              && sequence == 0xfffffffeu && opened_sealed == (sealed != 0)
+              && opened_len == message_len
+              && memcmp(buf + 54, token_confounder, 8) == 0
+              && memcmp(buf + 62, message, message_len) == 0
+              && buf[62 + message_len] == 1
+              && all_are(buf, 30, 0x5a)
+              && all_are(buf + 30 + written, sizeof buf - 30 - written, 0x5a));
+}
+
+static void check_token_round_trips(void)
+{
+    check_token_round_trip(0, 1, 8, "sealed round trip");
+    check_token_round_trip(0, 0, 8, "clear round trip");
+    check_token_round_trip(0, 1, 0, "sealed round trip of no message");
+    check_token_round_trip(0, 0, 0, "clear round trip of no message");
+    check_token_round_trip(0x80000000u, 2, 8,
+                           "sealed round trip, export strength, acceptor");
+    check_token_round_trip(2, 0, 8,
+                           "clear round trip, export strength, acceptor");
+}
+
 int main(void)
 {
     check_md4();
@@ -320,6 +570,12 @@ int main(void)
     check_decrypt();
     check_round_trip(0, "round trip, full strength");
     check_round_trip(1, "round trip, export strength");
+    check_mic_write();
+    check_mic_reads();
+    check_wrap_write();
+    check_wrap_open();
+    check_wrap_refusals();
+    check_token_round_trips();
 
     if (failed != 0) {
         printf("c: %u checks failed, %u passed\n", failed, passed);

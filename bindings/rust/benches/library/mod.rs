@@ -48,3 +48,53 @@ pub fn decrypt(key: &[u8; 16], usage: u32, message: &mut [u8]) -> bool {
     };
     answer == 0
 }
+
+/// Opens a whole token of full strength from the initiator in place: its
+/// sequence number and the length of its message, if it is sealed.
+#[inline(always)]
+pub fn wrap_open(key: &[u8; 16], token: &mut [u8]) -> Option<(u32, usize)> {
+    let (len, at) = (token.len(), token.as_mut_ptr());
+    let (mut sequence, mut sealed, mut found) = (0, 0, 0);
+    // SAFETY: an array, a slice and numbers that the borrows keep apart.
+    let answer = unsafe {
+        raw::rc4hmac_wrap_open(
+            key,
+            0,
+            0,
+            at,
+            len,
+            0,
+            len,
+            &mut sequence,
+            &mut sealed,
+            &mut found,
+        )
+    };
+    (answer == 0 && sealed == 1).then_some((sequence, found))
+}
+
+/// Makes a whole sealed token of full strength from the initiator in place.
+/// `key` and `confounder` share no octet.
+#[inline(always)]
+pub fn wrap_write(key: &[u8; 16], sequence: u32, confounder: &[u8; 8], token: &mut [u8]) {
+    let (len, at) = (token.len(), token.as_mut_ptr());
+    let (message_len, mut written) = (len - 33, 0);
+    // SAFETY: arrays that the benches keep apart, and a slice and a number that
+    // the borrows do.
+    let answer = unsafe {
+        raw::rc4hmac_wrap_write(
+            key,
+            0,
+            0,
+            sequence,
+            confounder,
+            1,
+            at,
+            len,
+            0,
+            message_len,
+            &mut written,
+        )
+    };
+    assert_eq!((answer, written), (0, len));
+}

@@ -11,10 +11,10 @@ use reference::{must_be_octets, token_outcomes, Inputs, Reading, TokenTerms, Wra
 /// Every bit, and several at once.
 const DAMAGES: [u8; 10] = [0x01, 0x02, 0x04, 0x08, 0x10, 0x20, 0x40, 0x80, 0xff, 0xa5];
 
-/// The number of a refusal by the place of the damage: the header, SND_SEQ's
-/// number and direction, SGN_CKSUM and, in a Wrap token, what it is of. A
-/// number decides over the key that a token is sealed under, and over nothing
-/// else.
+/// The refusal by the place of the damage: 4 in the header, 5 in the direction
+/// and in SGN_CKSUM, 6 in the confounder, the message and the pad. Octets 8 to
+/// 11 are the sequence number: it makes the key that a token is sealed under,
+/// and nothing else depends on it.
 fn number(at: usize, sealed: bool) -> u32 {
     match at {
         0..8 => 4,

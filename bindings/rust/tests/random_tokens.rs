@@ -80,7 +80,7 @@ fn octets_at_random_behind_a_right_direction_are_refused_with_6() {
     }
 }
 
-/// Signed as they are: what is the pad's place decides between 0 and 7.
+/// Signed as they are: what stands in the pad's place decides.
 #[test]
 fn octets_at_random_under_a_right_checksum_open_or_are_refused_with_7() {
     let mut inputs = Inputs::new(274);

@@ -214,46 +214,81 @@ fn tokens_at_every_alignment_are_right_and_no_octet_beside_them_changes() {
     }
 }
 
-/// Every number that the four calls give, with random octets where the answer
-/// goes.
+/// Random octets stand where the answers go, here and below.
 #[test]
-fn refused_tokens_change_no_octet_but_the_answers() {
+fn refused_writers_change_no_octet_but_the_length() {
     let mut inputs = Inputs::new(322);
     for alignment in 0..16 {
         let mut lent = Lent::new(&mut inputs, 100, 4, alignment);
         let terms = lent.terms(alignment % 2 == 0, alignment % 3 == 0);
         for (start, len) in [(0, 32_769), (0, usize::MAX), (0, 68), (68, 0)] {
+            lent.wrap_write(&terms, alignment % 2 == 1, start, len);
             lent.len.set(&inputs.array::<8>());
-            lent.wrap_write(&terms, true, start, len);
-            lent.mic_write(&terms, 5, start + 77);
         }
+        for start in [77, 100, usize::MAX - 23] {
+            lent.mic_write(&terms, 5, start);
+            lent.len.set(&inputs.array::<8>());
+        }
+    }
+}
+
+#[test]
+fn refused_openings_change_no_octet_but_the_answers() {
+    let mut inputs = Inputs::new(326);
+    for alignment in 0..16 {
+        let mut lent = Lent::new(&mut inputs, 100, 0, alignment);
+        let terms = lent.terms(alignment % 2 == 0, alignment % 3 == 0);
         let wrap = Wrap::new(&mut inputs, alignment % 2 == 1, 20);
-        for (at, number) in [(0, 4), (12, 5), (16, 5), (24, 6), (52, 6), (53, 7)] {
-            let mut token = terms.wrap_ending(&wrap, if at == 53 { 0x00 } else { PAD });
-            token.push(0);
+        let damaged = |at: usize| {
+            let mut token = terms.wrap(&wrap);
             token[at] ^= 0x20;
-            let buf = [&inputs.octets(10)[..], &token, &inputs.octets(36)].concat();
+            token
+        };
+        for (number, token) in [
+            (4, damaged(0)),
+            (5, damaged(12)),
+            (5, damaged(16)),
+            (6, damaged(24)),
+            (6, damaged(52)),
+            (7, terms.wrap_ending(&wrap, 0x00)),
+        ] {
+            let buf = [&inputs.octets(10)[..], &token, &inputs.octets(37)].concat();
             lent.buf.set(&buf);
-            lent.sequence.set(&inputs.array::<4>());
-            lent.sealed.set(&inputs.array::<4>());
-            lent.len.set(&inputs.array::<8>());
-            assert_eq!(lent.wrap_open(&terms, 10, 53).number, number);
-            assert_eq!(lent.wrap_open(&terms, 48, 53).number, 2);
-            assert_eq!(lent.wrap_open(&terms, 10, 32).number, 1);
+            for (number, start, length) in [(number, 10, 53), (2, 48, 53), (1, 10, 32)] {
+                lent.sequence.set(&inputs.array::<4>());
+                lent.sealed.set(&inputs.array::<4>());
+                lent.len.set(&inputs.array::<8>());
+                assert_eq!(lent.wrap_open(&terms, start, length).number, number);
+            }
         }
-        for (at, number) in [(0, 4), (12, 5), (16, 5)] {
-            let mut token = terms.mic(5, lent.data.lent());
+    }
+}
+
+#[test]
+fn refused_readings_of_a_mic_change_no_octet_but_the_number() {
+    let mut inputs = Inputs::new(327);
+    for alignment in 0..16 {
+        let mut lent = Lent::new(&mut inputs, 100, 30, alignment);
+        let terms = lent.terms(alignment % 2 == 0, alignment % 3 == 0);
+        let mic = terms.mic(5, lent.data.lent());
+        let damaged = |at: usize| {
+            let mut token = mic.clone();
             token[at] ^= 0x20;
-            lent.buf.set(&[&token[..], &inputs.octets(76)].concat());
-            lent.sequence.set(&inputs.array::<4>());
-            assert_eq!(lent.mic_read(&terms, 0, 24).number, number);
-            assert_eq!(lent.mic_read(&terms, 77, 24).number, 2);
-            assert_eq!(lent.mic_read(&terms, 0, 25).number, 1);
+            token
+        };
+        for (number, token) in [
+            (4, damaged(0)),
+            (5, damaged(12)),
+            (5, damaged(16)),
+            (6, terms.mic(5, b"other data")),
+        ] {
+            let buf = [&inputs.octets(76)[..], &token].concat();
+            lent.buf.set(&buf);
+            for (number, start, length) in [(number, 76, 24), (2, 77, 24), (1, 76, 25)] {
+                lent.sequence.set(&inputs.array::<4>());
+                assert_eq!(lent.mic_read(&terms, start, length).number, number);
+            }
         }
-        let token = terms.mic(5, b"other data");
-        lent.buf.set(&[&inputs.octets(76)[..], &token].concat());
-        lent.sequence.set(&inputs.array::<4>());
-        assert_eq!(lent.mic_read(&terms, 76, 24).number, 6);
     }
 }
 
@@ -344,6 +379,36 @@ fn mics_reach_no_octet_outside_the_key_the_data_and_the_buffer() {
                 must_be_octets(buf, &terms.mic(77, data), len);
                 let read = calls::mic_read_in_place(flags, key, data, buf, 0, MIC);
                 assert_eq!(read, (0, 77));
+            }
+        }
+    }
+}
+
+/// Key, data and token stand side by side where nothing can be written.
+#[test]
+fn a_mic_is_read_without_a_write_to_what_is_lent_for_it() {
+    let mut inputs = Inputs::new(328);
+    let mut map = Walled::new(4096);
+    for terms in TokenTerms::all(&mut inputs) {
+        for len in LENS {
+            let data = inputs.octets(len);
+            let right = terms.mic(77, &data);
+            for (at, number) in [(0, 0), (0, 4), (12, 5)] {
+                let mut token = right.clone();
+                if number != 0 {
+                    token[at] ^= 0x01;
+                }
+                let lent = [&terms.key[..], &token, &data].concat();
+                walled(Walled::first, &mut map, &lent);
+                map.set_writable(false);
+                let area = &*map.first(lent.len());
+                let (key, rest) = area.split_first_chunk().unwrap();
+                let (token, data) = rest.split_at(MIC);
+                let (answer, sequence) =
+                    calls::mic_read_in_place(Flags::of(&terms), key, data, token, 0, MIC);
+                assert_eq!(answer, number);
+                assert_eq!(sequence, if number == 0 { 77 } else { 0 });
+                map.set_writable(true);
             }
         }
     }

@@ -98,7 +98,7 @@ fn the_wrong_sender_is_found() {
     }
 }
 
-/// One to four of them changed, the last to the other sender's.
+/// Any of the four; all of them changed by ff are the other sender's.
 #[test]
 fn every_set_of_changed_direction_octets_is_refused_with_5() {
     let mut inputs = Inputs::new(265);

@@ -19,6 +19,7 @@ extern "C" {
 }
 
 const PROT_NONE: c_int = 0;
+const PROT_READ: c_int = 1;
 const PROT_READ_WRITE: c_int = 1 | 2;
 const MAP_PRIVATE_ANONYMOUS: c_int = 0x02 | 0x20;
 const PAGE: usize = 4096;
@@ -50,6 +51,15 @@ impl Walled {
                 len,
             }
         }
+    }
+
+    /// Whether the area may be written: if not, a write ends the test by a
+    /// signal too.
+    pub fn set_writable(&mut self, writable: bool) {
+        let protection = if writable { PROT_READ_WRITE } else { PROT_READ };
+        // SAFETY: these pages are mapped and owned.
+        let answer = unsafe { mprotect(self.map.add(PAGE).cast(), self.len, protection) };
+        assert_eq!(answer, 0);
     }
 
     fn area(&mut self) -> &mut [u8] {

@@ -151,8 +151,9 @@ uint32_t rc4hmac_decrypt(const uint8_t key[16], uint32_t export_strength,
  * The sequence number of a MIC token, and of a Wrap token that is not sealed,
  * is under no checksum: such a token with its octets 8 to 11 changed is read or
  * opened with another number, and not refused. The number of a sealed token
- * makes the key that it is sealed under: if octets 8 to 11 are changed, the
- * checksum differs. */
+ * makes the key that it is sealed under: with other octets 8 to 11 its body
+ * comes out as other octets, which the checksum finds but for one chance in
+ * 2^64. */
 
 /* Writes the MIC token of 0 to RC4HMAC_MESSAGE_MAX octets of data and a
  * sequence number to the RC4HMAC_MIC_LEN octets at `start`, and that length to
@@ -175,13 +176,13 @@ uint32_t rc4hmac_mic_read(const uint8_t key[16], uint32_t export_strength,
 
 /* Writes a Wrap token in place. The message, 0 to RC4HMAC_MESSAGE_MAX octets,
  * stands RC4HMAC_WRAP_MESSAGE_OFFSET octets after `start`; the region from
- * `start` to one octet after the message becomes the header fields, the
- * confounder, the message and the pad, the latter three encrypted if `sealed`,
- * and its length, RC4HMAC_WRAP_OVERHEAD more than the message's, is written to
- * `written`. Each token needs a confounder of its own, of random octets. The
- * keystream that seals a token depends on the key, the strength and the
- * sequence number alone: two sealed tokens should not share all three, whoever
- * sends them. */
+ * `start` to one octet after the message becomes the header, SND_SEQ,
+ * SGN_CKSUM, the confounder, the message and the pad, the latter three
+ * encrypted if `sealed`, and its length, RC4HMAC_WRAP_OVERHEAD more than the
+ * message's, is written to `written`. Each token needs a confounder of its own,
+ * of random octets. The keystream that seals a token depends on the key, the
+ * strength and the sequence number alone: two sealed tokens should not share
+ * all three, whoever sends them. */
 uint32_t rc4hmac_wrap_write(const uint8_t key[16], uint32_t export_strength,
                             uint32_t acceptor, uint32_t sequence,
                             const uint8_t confounder[8], uint32_t sealed,

@@ -118,7 +118,7 @@ pub fn mic_write(
 /// if the region does not lie inside `buf`, [`Refusal::Header`] for other
 /// octets 0 to 7 than a MIC token's, [`Refusal::Direction`] for another sender
 /// and, but for one chance in 2^32, for another key or strength or a damaged
-/// checksum in the token, [`Refusal::Checksum`] for other data:
+/// checksum in the token, [`Refusal::Checksum`] if the checksum differs:
 ///
 /// ```
 /// use rc4hmac::{mic_read, mic_write, Context, Refusal, Sender, Strength, MIC_LEN};
@@ -251,7 +251,7 @@ pub fn wrap_write(
 ///
 /// The sequence number of a token that is not sealed is under no checksum: such
 /// a token with its octets 8 to 11 changed opens with another number. A sealed
-/// token so changed is refused for its checksum.
+/// token so changed is refused for its checksum, but for one chance in 2^64.
 ///
 /// # Errors
 ///
@@ -259,8 +259,8 @@ pub fn wrap_write(
 /// does not lie inside `buf`, [`Refusal::Header`] for other octets 0 to 7 than a
 /// Wrap token's, [`Refusal::Direction`] for another sender and, but for one
 /// chance in 2^32, for another key or strength or a damaged checksum in the
-/// token, [`Refusal::Checksum`] for other damage, [`Refusal::Pad`] for a token
-/// that was signed with another pad than 01; `buf` is then as it was:
+/// token, [`Refusal::Checksum`] if the checksum differs, [`Refusal::Pad`] for a
+/// token that was signed with another pad than 01; `buf` is then as it was:
 ///
 /// ```
 /// use rc4hmac::{wrap_open, wrap_write, Context, Refusal, Sender, Strength};

@@ -5,24 +5,7 @@ mod calls;
 mod reference;
 
 use rc4hmac::{Refusal, Strength, Usage};
-use reference::{must_be_octets, outcomes, Inputs, Outcome, Terms, HEADER};
-
-/// Over the limit of a message, by one octet to many; the last are within it
-/// in their low 16 or 32 bits only.
-const OVER: [usize; 12] = [
-    32_769,
-    32_770,
-    32_792,
-    32_793,
-    65_535,
-    65_536,
-    65_537,
-    98_304,
-    1_000_000,
-    1 << 32,
-    (1 << 32) + 40,
-    1 << 63,
-];
+use reference::{must_be_octets, outcomes, Inputs, Outcome, Terms, HEADER, OVER_MESSAGE};
 
 fn terms(inputs: &mut Inputs, export: bool) -> Terms {
     Terms {
@@ -46,7 +29,7 @@ fn checksums_take_32_768_octets_and_refuse_more() {
             0
         );
     }
-    for len in OVER.into_iter().filter(|&len| len <= data.len()) {
+    for len in OVER_MESSAGE.into_iter().filter(|&len| len <= data.len()) {
         let data = &data[..len];
         // The right one, were the length let in.
         let checksum = reference::checksum(&key, usage, data);
@@ -97,7 +80,7 @@ fn encrypt_refuses_more_and_leaves_the_buffer() {
         let terms = terms(&mut inputs, export);
         // With room for some of them, so that only the length is wrong.
         let buf = inputs.octets(100_000);
-        for len in OVER {
+        for len in OVER_MESSAGE {
             let outcome = calls::encrypt(&terms, &inputs.array(), &buf, 0, len);
             outcome.must_be(&Outcome::refused(1, &buf), len);
         }
@@ -131,7 +114,7 @@ fn decrypt_refuses_fewer_and_more_and_leaves_the_buffer() {
             outcome.must_be(&Outcome::refused(1, &message), len);
         }
         let message = terms.encrypt(&inputs.array(), &inputs.octets(40));
-        for length in (0..HEADER).chain(OVER.map(|len| len + HEADER)) {
+        for length in (0..HEADER).chain(OVER_MESSAGE.map(|len| len + HEADER)) {
             let outcome = calls::decrypt(&terms, &message, 0, length);
             outcome.must_be(&Outcome::refused(1, &message), length);
         }
@@ -143,7 +126,7 @@ fn the_safe_functions_refuse_other_lengths_and_leave_the_buffer() {
     let (key, usage) = ([7; 16], Usage::KRB_PRIV_ENCRYPTED_PART);
     for strength in [Strength::Full, Strength::Export] {
         let mut buf = vec![0x5a; 40_000];
-        for len in OVER {
+        for len in OVER_MESSAGE {
             let answer = rc4hmac::encrypt(&key, strength, usage, &[1; 8], &mut buf, 0, len);
             assert_eq!(answer, Err(Refusal::Length), "{len}");
         }

@@ -4,20 +4,7 @@
 mod calls;
 mod reference;
 
-use reference::{must_be_octets, Inputs, Outcome, Terms, HEADER};
-
-/// Every set of `N` faults, each there or not.
-fn fault_sets<const N: usize>() -> impl Iterator<Item = [bool; N]> {
-    (0..1 << N).map(|set: u32| std::array::from_fn(|fault| set >> fault & 1 == 1))
-}
-
-/// The number of the first fault that is there.
-fn first<const N: usize>(numbers: [u32; N], faults: [bool; N]) -> u32 {
-    let mut numbers = numbers.into_iter().zip(faults);
-    numbers
-        .find(|(_, there)| *there)
-        .map_or(0, |(number, _)| number)
-}
+use reference::{fault_sets, first, must_be_octets, Inputs, Outcome, Terms, HEADER};
 
 const WRONG_USAGES: [u32; 4] = [0, 16, 256, u32::MAX];
 

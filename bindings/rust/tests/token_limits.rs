@@ -8,24 +8,8 @@ use calls::context;
 use rc4hmac::Refusal;
 use reference::{
     must_be_octets, token_outcomes, Inputs, Outcome, Reading, TokenTerms, Wrap, FRONT, MIC,
+    OVER_MESSAGE,
 };
-
-/// Over the limit of a message, by one octet to many; the last are within it
-/// in their low 16 or 32 bits only.
-const OVER: [usize; 12] = [
-    32_769,
-    32_770,
-    32_801,
-    32_802,
-    65_535,
-    65_536,
-    65_537,
-    98_304,
-    1_000_000,
-    1 << 32,
-    (1 << 32) + 40,
-    1 << 63,
-];
 
 #[test]
 fn mics_take_data_of_32_768_octets_and_refuse_more() {
@@ -39,7 +23,7 @@ fn mics_take_data_of_32_768_octets_and_refuse_more() {
             let read = calls::mic_read(&terms, &data[..len], &written.buf, 0, 24);
             assert_eq!(read.answer(), (0, 5, 0, 0));
         }
-        for len in OVER.into_iter().filter(|&len| len <= data.len()) {
+        for len in OVER_MESSAGE.into_iter().filter(|&len| len <= data.len()) {
             let outcome = calls::mic_write(&terms, 5, &data[..len], &buf, 0);
             outcome.must_be(&Outcome::refused(1, &buf), len);
             // The right one, were the length let in.
@@ -71,7 +55,10 @@ fn mic_read_takes_24_octets_and_no_other_number() {
     for terms in TokenTerms::all(&mut inputs) {
         let data = inputs.octets(30);
         let token = [terms.mic(5, &data), inputs.octets(100_000)].concat();
-        for length in (0..=1000).chain(OVER).chain([usize::MAX - 1, usize::MAX]) {
+        for length in (0..=1000)
+            .chain(OVER_MESSAGE)
+            .chain([usize::MAX - 1, usize::MAX])
+        {
             let reading = calls::mic_read(&terms, &data, &token, 0, length);
             if length == 24 {
                 assert_eq!(reading.answer(), (0, 5, 0, 0));
@@ -112,7 +99,7 @@ fn wrap_write_refuses_more_and_leaves_the_buffer() {
     for terms in TokenTerms::all(&mut inputs) {
         // With room for some of them, so that only the length is wrong.
         let buf = inputs.octets(100_000);
-        for len in OVER
+        for len in OVER_MESSAGE
             .into_iter()
             .chain([usize::MAX - 33, usize::MAX - 32, usize::MAX])
         {
@@ -154,7 +141,7 @@ fn wrap_open_refuses_fewer_and_more_and_leaves_the_buffer() {
                 opened.must_be(&Reading::refused(1, &token), len);
             }
             let token = terms.wrap(&Wrap::new(&mut inputs, sealed, 40));
-            let over = OVER.map(|len| len + 33);
+            let over = OVER_MESSAGE.map(|len| len + 33);
             let low = (1_usize..8).map(|high| (high << 32) + 73);
             for length in (0..=32).chain(over).chain(low).chain([usize::MAX]) {
                 let opened = calls::wrap_open(&terms, &token, 0, length);
@@ -184,7 +171,7 @@ fn the_safe_functions_refuse_other_lengths_and_leave_the_buffer() {
     for terms in TokenTerms::all(&mut Inputs::new(289)) {
         let (context, refused) = (context(&terms), Err(Refusal::Length));
         let mut buf = vec![0x5a; 40_000];
-        for len in OVER {
+        for len in OVER_MESSAGE {
             for sealed in [false, true] {
                 let answer = rc4hmac::wrap_write(&context, 1, &[1; 8], sealed, &mut buf, 0, len);
                 assert_eq!(answer, refused, "{len}");

@@ -5,20 +5,7 @@
 mod calls;
 mod reference;
 
-use reference::{Inputs, Outcome, Reading, TokenTerms, Wrap, MIC_HEADER, PAD};
-
-/// Every set of `N` faults, each there or not.
-fn fault_sets<const N: usize>() -> impl Iterator<Item = [bool; N]> {
-    (0..1 << N).map(|set: u32| std::array::from_fn(|fault| set >> fault & 1 == 1))
-}
-
-/// The number of the first fault that is there.
-fn first<const N: usize>(numbers: [u32; N], faults: [bool; N]) -> u32 {
-    let mut numbers = numbers.into_iter().zip(faults);
-    numbers
-        .find(|(_, there)| *there)
-        .map_or(0, |(number, _)| number)
-}
+use reference::{fault_sets, first, Inputs, Outcome, Reading, TokenTerms, Wrap, MIC_HEADER, PAD};
 
 /// Starts outside a buffer of 40,000 octets; with the lengths here some sums
 /// come out small if they wrap.

@@ -6,8 +6,8 @@ use Prim.Native.Nat.{ℕ, _+_, _≤_, _<_}
 use native.Mathlib.Omega.{arith}
 use lib.ListN.{length, length-take, length-drop}
 use Rattle.primitives.specs.Octets.{Octets}
-use Rattle.tokens.specs.Answer.{Outcome, done, refused, number, extentNumber, extentOctets, extentAnswer, sequenceRefusal, sequenceNumber, unwrappedNumber, unwrappedSequence, unwrappedSealed, unwrappedLength}
-use Rattle.tokens.specs.Limits.{mostMessage, region, placed, bufferAfter}
+use Rattle.tokens.specs.Answer.{Outcome, done, refused, extentNumber, extentOctets, extentAnswer, sequenceRefusal, sequenceNumber, unwrappedNumber, unwrappedSequence, unwrappedSealed, unwrappedLength}
+use Rattle.tokens.specs.Limits.{region, placed, bufferAfter}
 use Rattle.tokens.specs.Message as Message
 use Rattle.tokens.specs.Message.{allOctets}
 use Rattle.tokens.specs.Mic as Mic

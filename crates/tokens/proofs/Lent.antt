@@ -1,6 +1,6 @@
 -- A body that was lent with the octets before it, and a region that was lent of a buffer.
 use mathlib.Core.Path.{_≡_, refl, sym, ap, _∙_}
-use mathlib.Core.List.{List, [], _∷_, _++_, append-nil}
+use mathlib.Core.List.{List, [], _∷_, _++_, append-assoc, append-nil}
 use Prim.Native.Nat.{ℕ, zero, suc, _+_, _-_, _≤_}
 use native.Mathlib.Omega.{arith}
 use lib.ListN.{length, take, drop, length-append, length-take, length-drop, take-append-drop, drop-of-length-le}
@@ -106,3 +106,25 @@ behind buf start h n inside =
     let d = drop start buf in
     let front : length (take h d) ≡ h = length-take-le h d (rw length-drop (omega arith)) in
     ap (drop h) (take-add h n d) ∙ drop-at (take h d) (take n (drop h d)) h front ∙ ap (take n) (drop-drop h start buf)
+
+-- ---- A confounder and a body placed in a buffer
+
+module _ (at : ℕ) (confounder body buf : List ℕ) (eight : length confounder ≡ 8) (inside : at ≤ length buf) where
+  abbrev after : List ℕ
+  after = placed at (confounder ++ body) buf
+
+  from-confounder : drop at after ≡ confounder ++ (body ++ drop (at + length (confounder ++ body)) buf)
+  unfolding placed
+  from-confounder =
+      let tail : List ℕ = drop (at + length (confounder ++ body)) buf in
+      drop-at (take at buf) ((confounder ++ body) ++ tail) at (length-take-le at buf inside) ∙ append-assoc confounder body tail
+
+  pub confounder-stands : region at 8 after ≡ confounder
+  confounder-stands = ap (take 8) from-confounder ∙ take-at confounder _ 8 eight
+
+  pub body-stands : (k n : ℕ) → k ≡ at + 8 → length body ≡ n → region k n after ≡ body
+  body-stands k n next size =
+      let tail : List ℕ = drop (at + length (confounder ++ body)) buf in
+      ap (λ (m : ℕ). take n (drop m after)) next
+      ∙ ap (take n) (sym (drop-drop 8 at after) ∙ ap (drop 8) from-confounder ∙ drop-at confounder (body ++ tail) 8 eight)
+      ∙ take-at body tail n size

@@ -70,7 +70,7 @@ abbrev pub extentAnswer : {A : Type 0} → (A → ℕ) → Outcome A → Extent
 extentAnswer size (done a) = extent.Octets (size a)
 extentAnswer size (refused r) = extent.Refused r
 
--- the sequence number of a token
+-- the sequence number of a token: the number of its refusal, and the sequence number itself
 abbrev pub sequenceRefusal : Sequence → ℕ
 sequenceRefusal (sequence.Number n) = 0
 sequenceRefusal (sequence.Refused r) = number r

@@ -65,3 +65,23 @@ impl Inputs {
 pub fn counting(len: usize) -> Vec<u8> {
     (0..len).map(|i| i as u8).collect()
 }
+
+/// Over the limit of a message, by one octet to many; among them the limits of
+/// an encrypted message and of a Wrap token, and lengths that are within it in
+/// their low 16 or 32 bits only.
+pub const OVER_MESSAGE: [usize; 14] = [
+    32_769,
+    32_770,
+    32_792,
+    32_793,
+    32_801,
+    32_802,
+    65_535,
+    65_536,
+    65_537,
+    98_304,
+    1_000_000,
+    1 << 32,
+    (1 << 32) + 40,
+    1 << 63,
+];

@@ -6,6 +6,7 @@
 #![allow(dead_code, unused_imports)]
 
 mod checksum;
+mod faults;
 mod hmac;
 mod inputs;
 mod md4;
@@ -20,8 +21,9 @@ pub mod token_outcomes;
 mod usage;
 
 pub use checksum::checksum;
+pub use faults::{fault_sets, first};
 pub use hmac::hmac_md5;
-pub use inputs::{counting, Inputs};
+pub use inputs::{counting, Inputs, OVER_MESSAGE};
 pub use md4::md4;
 pub use md5::md5;
 pub use message::{Terms, HEADER};

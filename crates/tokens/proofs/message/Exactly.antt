@@ -1,24 +1,24 @@
 -- Reading succeeds exactly on what the rule writes: of the octets of an encrypted message, and of a region of a buffer.
 use mathlib.Core.Path.{_≡_, refl, sym, ap, _∙_, subst}
 use mathlib.Core.Bool.{true}
-use mathlib.Core.List.{List, [], _∷_, _++_, append-assoc}
-use Prim.Native.Nat.{ℕ, zero, suc, _+_, _-_, _≤_}
+use mathlib.Core.List.{List, _++_, append-assoc}
+use Prim.Native.Nat.{ℕ, _+_, _-_, _≤_}
 use native.Mathlib.Omega.{arith}
-use lib.ListN.{length, take, drop, length-append, length-take, length-drop, take-append-drop}
-use lib.Seq.{take-at, drop-at, drop-drop, getD-drop, length-take-le}
+use lib.ListN.{length, take, drop, length-append, length-drop, take-append-drop}
+use lib.Seq.{take-at, drop-at, drop-drop, length-take-le}
 use borrow.Author.Tests.{leb-true, le-leb}
 use Rattle.primitives.specs.Octets.{Octets}
 use Rattle.primitives.specs.Rc4.{rc4, keySchedule}
-use Rattle.primitives.proofs.Laws.{apply-length, apply-octets, apply-twice, hmac-length, schedule-octets}
+use Rattle.primitives.proofs.Laws.{apply-length, apply-octets, apply-twice, schedule-octets}
 use Rattle.tokens.specs.Answer.{Outcome, done, require, extentNumber, extentOctets, extentAnswer}
 use Rattle.tokens.specs.Limits.{mostMessage, region, placed, bufferAfter}
-use Rattle.tokens.specs.Message.{Parts, messageLength, plain, k2, k3, messageChecksum, encrypt, overhead, decrypted, apart, opened, decryption, Written, HandedBack, ReadsExactly}
+use Rattle.tokens.specs.Message.{Parts, messageLength, plain, k3, messageChecksum, encrypt, overhead, decrypted, apart, opened, decryption, Written, HandedBack, ReadsExactly}
 use Rattle.tokens.specs.Octets.{same}
 use Rattle.tokens.specs.Usage.{leastUsage, mostUsage, typeOctets}
 use Rattle.tokens.specs.declared.answer.Extent.{Extent}
 use Rattle.tokens.specs.declared.strength.Strength.{Strength}
 use Rattle.tokens.proofs.Lengths.{message-checksum-length, encrypt-length}
-use Rattle.tokens.proofs.Lent.{octets-take, octets-drop, region-length}
+use Rattle.tokens.proofs.Lent.{octets-take, octets-drop, region-length, confounder-stands, body-stands}
 use Rattle.tokens.proofs.SameOctets.{same-true, same-self}
 use Rattle.tokens.proofs.Steps.{require-done, done-same, done-told, within-bounds}
 use Rattle.tokens.proofs.message.Sealing.{plain-apart}
@@ -156,25 +156,16 @@ module _ (key : List ℕ) (strength : Strength) (usage : ℕ) where
 
     handed-back : start + n ≤ length buf → (p : Parts) → Written key strength usage p (region start n buf)
         → HandedBack p start 0 (messageLength p) (bufferAfter plain (start + 16) buf (done p))
-    unfolding placed plain
+    unfolding plain
     handed-back h p w =
         let l : n ≡ 24 + length (p .message) = sym (region-length buf start n h) ∙ written-length p (region start n buf) w in
-        let front : length (take (start + 16) buf) ≡ start + 16 = length-take-le (start + 16) buf (omega arith) in
+        let inside : start + 16 ≤ length buf = omega arith in
         let eight = w .confounder-eight in
-        let tail : List ℕ = drop (start + 16 + length (p .confounder ++ p .message)) buf in
-        let at-16 : drop (start + 16) (take (start + 16) buf ++ ((p .confounder ++ p .message) ++ tail)) ≡ p .confounder ++ (p .message ++ tail)
-        = drop-at (take (start + 16) buf) ((p .confounder ++ p .message) ++ tail) (start + 16) front ∙ append-assoc (p .confounder) (p .message) tail in
-        let sums : start + 24 ≡ start + 16 + 8 = omega arith in
-        let at-24 : drop (start + 24) (take (start + 16) buf ++ ((p .confounder ++ p .message) ++ tail)) ≡ p .message ++ tail
-        = ap (λ (k : ℕ). drop k (take (start + 16) buf ++ ((p .confounder ++ p .message) ++ tail))) sums
-        ∙ sym (drop-drop 8 (start + 16) _)
-        ∙ ap (drop 8) at-16
-        ∙ drop-at (p .confounder) (p .message ++ tail) 8 eight in
         record {
           done-is = refl;
           length-is = refl;
-          confounder-stands = ap (take 8) at-16 ∙ take-at (p .confounder) (p .message ++ tail) 8 eight;
-          message-stands = ap (take (length (p .message))) at-24 ∙ take-at (p .message) tail (length (p .message)) refl;
+          confounder-stands = confounder-stands (start + 16) (p .confounder) (p .message) buf eight inside;
+          message-stands = body-stands (start + 16) (p .confounder) (p .message) buf eight inside (start + 24) (length (p .message)) (omega arith) refl;
         }
 
     -- what the definition gives meets the demand

@@ -1,11 +1,10 @@
 -- A region of a buffer, written and read through the part that is lent of it.
-use mathlib.Core.Path.{_≡_, refl, sym, ap, _∙_}
+use mathlib.Core.Path.{_≡_, sym, ap, _∙_}
 use mathlib.Core.List.{List, _++_}
 use Prim.Native.Nat.{ℕ, _+_, _-_, _≤_}
 use native.Mathlib.Omega.{arith}
 use lib.ListN.{length, take, drop, length-append, length-take, length-drop}
-use lib.Seq.{take-add, drop-at, drop-drop, length-take-le}
-use Rattle.tokens.specs.Answer.{Outcome, done, refused, statusAnswer, extentAnswer}
+use Rattle.tokens.specs.Answer.{Outcome, done, statusAnswer, extentAnswer}
 use Rattle.tokens.specs.Limits.{region, placed, bufferAfter}
 use Rattle.tokens.specs.Message.{Parts, parts, messageLength, plain, encrypt, opened}
 use Rattle.tokens.specs.declared.answer.Extent.the-variants as extent

@@ -1,25 +1,22 @@
 -- An encrypted message written and opened as its front and the message after it, from what each step gives.
-use mathlib.Core.Path.{_≡_, refl, sym, ap, ap₂, _∙_}
-use mathlib.Core.List.{List, _++_, append-nil}
-use Prim.Native.Nat.{ℕ, _+_, _-_, _≤_}
-use native.Mathlib.Omega.{arith}
-use lib.ListN.{length, take, drop, length-append, length-drop, take-append-drop, drop-of-length-le}
-use lib.Seq.{take-at, drop-at, take-append-le, drop-append-add, drop-drop, length-take-le, take-take}
+use mathlib.Core.Path.{_≡_, sym, ap, ap₂, _∙_}
+use mathlib.Core.List.{List, _++_}
+use Prim.Native.Nat.{ℕ, _+_, _-_}
+use lib.ListN.{length, take-append-drop}
+use lib.Seq.{take-at, drop-at}
 use Rattle.primitives.specs.Hmac.{hmac}
 use Rattle.primitives.specs.Rc4.{rc4, keySchedule}
 use Rattle.primitives.proofs.Laws.{apply-twice, apply-length}
-use Rattle.tokens.specs.Answer.{Outcome, done, refused, require, tested, statusAnswer}
-use Rattle.tokens.specs.Limits.{region, placed, bufferAfter}
-use Rattle.tokens.specs.Message.{Parts, parts, plain, k1, k2, k3, messageChecksum, encrypt, decrypted, apart, opened}
+use Rattle.tokens.specs.Answer.{done, require, tested, statusAnswer}
+use Rattle.tokens.specs.Limits.{bufferAfter}
+use Rattle.tokens.specs.Message.{parts, plain, k1, k2, k3, messageChecksum, encrypt, decrypted, apart, opened}
 use Rattle.tokens.specs.Octets.{same}
-use Rattle.tokens.specs.Strength.{salt, saltAnswer}
 use Rattle.tokens.specs.declared.answer.Refusal.{Refusal}
 use Rattle.tokens.specs.declared.answer.Refusal.the-variants.{Checksum}
 use Rattle.tokens.specs.declared.answer.Status.{Status}
 use Rattle.tokens.specs.declared.answer.Status.the-variants.{Done, Refused}
-use Rattle.tokens.specs.declared.strength.Salt.{Salt}
 use Rattle.tokens.specs.declared.strength.Strength.{Strength}
-use Rattle.tokens.proofs.Placing.{placed-all, placed-under, rest-of}
+use Rattle.tokens.proofs.Placing.{placed-all}
 use Rattle.tokens.proofs.Steps.{goes-on, stops, status-decided}
 
 -- ---- Plain text apart

@@ -1,20 +1,20 @@
 -- Reading a MIC token succeeds exactly on what the rule writes: of its octets, and of a region of a buffer.
-use mathlib.Core.Path.{_≡_, refl, sym, ap, _∙_, subst}
+use mathlib.Core.Path.{_≡_, sym, ap, _∙_, subst}
 use mathlib.Core.List.{List, [], _++_, append-nil}
 use Prim.Native.Nat.{ℕ, _+_, _≤_, _<_}
 use native.Mathlib.Omega.{arith}
-use lib.ListN.{length, take, drop, drop-of-length-le}
+use lib.ListN.{length, drop, drop-of-length-le}
 use borrow.Author.Tests.{leb-true, le-leb}
 use Rattle.primitives.specs.Octets.{Octets}
 use Rattle.tokens.specs.Answer.{Outcome, done, require, andThen, sequenceRefusal, sequenceNumber, sequenceAnswer}
 use Rattle.tokens.specs.Limits.{mostMessage, region}
-use Rattle.tokens.specs.Mic.{header, messageType, micChecksum, micToken, micLength, micNumber, micReading, Written, ReadsExactly}
+use Rattle.tokens.specs.Mic.{header, micChecksum, micToken, micLength, micNumber, micReading, Written, ReadsExactly}
 use Rattle.tokens.specs.Octets.{same}
 use Rattle.tokens.specs.Token.{sequenceNumbers, front, headerIn, checksumIn, numberIn}
 use Rattle.tokens.specs.declared.answer.Refusal.the-variants.{Checksum}
 use Rattle.tokens.specs.declared.answer.Sequence.{Sequence}
 use Rattle.tokens.specs.declared.context.Context.{Context}
-use Rattle.tokens.proofs.Fronts.{checksum-length, front-length, front-header, front-checksum, front-number, number-fits, front-back}
+use Rattle.tokens.proofs.Fronts.{front-header, front-checksum, front-number, number-fits, front-back}
 use Rattle.tokens.proofs.Lengths.{mic-header-length, mic-checksum-length, mic-length}
 use Rattle.tokens.proofs.Lent.{octets-take, octets-drop, region-length}
 use Rattle.tokens.proofs.SameOctets.{same-true, same-self}

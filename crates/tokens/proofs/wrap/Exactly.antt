@@ -1,27 +1,26 @@
 -- Opening a Wrap token succeeds exactly on what the rule writes: of its octets, and of a region of a buffer.
-use mathlib.Core.Path.{_≡_, refl, sym, ap, ap₂, _∙_, subst}
+use mathlib.Core.Path.{_≡_, refl, sym, ap, _∙_, subst}
 use mathlib.Core.Bool.{Bool, true, false, cond}
 use mathlib.Core.List.{List, [], _∷_, _++_, append-assoc}
 use Prim.Native.Nat.{ℕ, zero, suc, _+_, _-_, _≤_, _<_}
 use native.Mathlib.Omega.{arith}
-use lib.Dec.{eqb}
-use lib.ListN.{length, getD, take, drop, length-append, length-take, length-drop, take-append-drop}
+use lib.ListN.{length, getD, take, drop, length-append, length-drop, take-append-drop}
 use lib.Seq.{take-at, drop-at, getD-at, getD-drop, drop-drop, length-take-le}
 use borrow.Author.Tests.{eqb-true, eq-eqb, leb-true, le-leb}
 use Rattle.primitives.specs.Octets.{Octets}
 use Rattle.primitives.specs.Rc4.{keySchedule}
-use Rattle.primitives.proofs.Laws.{apply-length, apply-octets, apply-twice, schedule-octets}
+use Rattle.primitives.proofs.Laws.{apply-octets, apply-twice, schedule-octets}
 use Rattle.tokens.specs.Answer.{Outcome, done, require, andThen, unwrappedNumber, unwrappedSequence, unwrappedSealed, unwrappedLength}
 use Rattle.tokens.specs.Limits.{mostMessage, region, placed, bufferAfter}
 use Rattle.tokens.specs.Octets.{same}
 use Rattle.tokens.specs.Token.{sequenceNumbers, sealingKey, front, headerIn, checksumIn, numberIn}
-use Rattle.tokens.specs.Wrap.{Parts, header, plain, messageType, wrapChecksum, underSeal, wrapToken, wrapLength, sealedIn, apart, verified, opened, wrapOpening, unwrappedAnswer, Written, HandedBack, OpensExactly}
+use Rattle.tokens.specs.Wrap.{Parts, header, plain, wrapChecksum, underSeal, wrapToken, sealedIn, apart, verified, opened, wrapOpening, unwrappedAnswer, Written, HandedBack, OpensExactly}
 use Rattle.tokens.specs.declared.answer.Refusal.the-variants as Refusal
 use Rattle.tokens.specs.declared.answer.Unwrapped.{Unwrapped}
 use Rattle.tokens.specs.declared.context.Context.{Context}
-use Rattle.tokens.proofs.Fronts.{checksum-length, front-length, front-header, front-checksum, front-rest, front-number, number-fits, front-back}
+use Rattle.tokens.proofs.Fronts.{front-header, front-checksum, front-rest, front-number, number-fits, front-back}
 use Rattle.tokens.proofs.Lengths.{wrap-header-length, wrap-checksum-length, seal-length, plain-length, wrap-length}
-use Rattle.tokens.proofs.Lent.{octets-take, octets-drop, region-length}
+use Rattle.tokens.proofs.Lent.{octets-take, octets-drop, region-length, confounder-stands, body-stands}
 use Rattle.tokens.proofs.SameOctets.{same-true, same-self}
 use Rattle.tokens.proofs.Steps.{require-done, then-done, done-same, parts-told, within-bounds}
 
@@ -243,28 +242,19 @@ module _ (context : Context) where
 
     handed-back : start + n ≤ length buf → (p : Parts) → Written context p (region start n buf)
         → HandedBack p start 0 (p .sequence) (p .sealed) (length (p .message)) (bufferAfter plain (start + 24) buf (done p))
-    unfolding placed plain
+    unfolding plain
     handed-back h p w =
         let size : n ≡ 33 + length (p .message) = sym (region-length buf start n h) ∙ written-length p (region start n buf) w in
-        let before : length (take (start + 24) buf) ≡ start + 24 = length-take-le (start + 24) buf (omega arith) in
+        let inside : start + 24 ≤ length buf = omega arith in
         let eight = w .confounder-eight in
-        let padded : List ℕ = p .message ++ (1 ∷ []) in
-        let tail : List ℕ = drop (start + 24 + length (p .confounder ++ padded)) buf in
-        let at-24 : drop (start + 24) (take (start + 24) buf ++ ((p .confounder ++ padded) ++ tail)) ≡ p .confounder ++ (padded ++ tail)
-        = drop-at (take (start + 24) buf) ((p .confounder ++ padded) ++ tail) (start + 24) before ∙ append-assoc (p .confounder) padded tail in
-        let sums : start + 32 ≡ start + 24 + 8 = omega arith in
-        let at-32 : drop (start + 32) (take (start + 24) buf ++ ((p .confounder ++ padded) ++ tail)) ≡ padded ++ tail
-        = ap (λ (k : ℕ). drop k (take (start + 24) buf ++ ((p .confounder ++ padded) ++ tail))) sums
-        ∙ sym (drop-drop 8 (start + 24) _)
-        ∙ ap (drop 8) at-24
-        ∙ drop-at (p .confounder) (padded ++ tail) 8 eight in
+        let body : List ℕ = p .message ++ (1 ∷ []) in
         record {
           done-is = refl;
           sequence-is = refl;
           sealed-is = refl;
           length-is = refl;
-          confounder-stands = ap (take 8) at-24 ∙ take-at (p .confounder) (padded ++ tail) 8 eight;
-          message-stands = ap (take (length (p .message) + 1)) at-32 ∙ take-at padded tail (length (p .message) + 1) (length-append (p .message) (1 ∷ []));
+          confounder-stands = confounder-stands (start + 24) (p .confounder) body buf eight inside;
+          message-stands = body-stands (start + 24) (p .confounder) body buf eight inside (start + 32) (length (p .message) + 1) (omega arith) (length-append (p .message) (1 ∷ []));
         }
 
     -- what the definition gives meets the demand

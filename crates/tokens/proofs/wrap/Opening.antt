@@ -1,18 +1,18 @@
 -- A Wrap token written and opened as its front, confounder and body, from what each step gives.
-use mathlib.Core.Path.{_≡_, refl, sym, ap, ap₂, _∙_}
-use mathlib.Core.Bool.{Bool, true, false}
-use mathlib.Core.List.{List, [], _∷_, _++_, append-assoc}
-use Prim.Native.Nat.{ℕ, suc, _+_, _-_, _≤_, _<_}
+use mathlib.Core.Path.{_≡_, sym, ap, ap₂, _∙_}
+use mathlib.Core.Bool.{Bool}
+use mathlib.Core.List.{List, [], _∷_, _++_}
+use Prim.Native.Nat.{ℕ, suc, _+_, _-_, _≤_}
 use native.Mathlib.Omega.{arith}
 use lib.Dec.{eqb}
 use lib.ListN.{length, getD, take, drop, set, length-append, length-take, length-drop, drop-of-length-le}
-use lib.Seq.{take-at, drop-at, set-split, getD-append-add}
+use lib.Seq.{drop-at, set-split, getD-append-add}
 use borrow.Author.Tests.{eqb-true, eq-eqb, ne-eqb}
 use Rattle.tokens.specs.Answer.{Outcome, done, refused, require, andThen, tested, statusAnswer, sequenceAnswer}
-use Rattle.tokens.specs.Limits.{region, placed, bufferAfter}
+use Rattle.tokens.specs.Limits.{bufferAfter}
 use Rattle.tokens.specs.Octets.{same}
-use Rattle.tokens.specs.Token.{front, headerIn, checksumIn, numberIn}
-use Rattle.tokens.specs.Wrap.{Parts, parts, header, plain, wrapChecksum, underSeal, wrapToken, sealedIn, apart, verified, opened, unwrappedAnswer, sealingAnswer}
+use Rattle.tokens.specs.Token.{front, checksumIn, numberIn}
+use Rattle.tokens.specs.Wrap.{parts, header, plain, wrapChecksum, underSeal, wrapToken, sealedIn, apart, verified, opened, unwrappedAnswer, sealingAnswer}
 use Rattle.tokens.specs.declared.answer.Refusal.{Refusal}
 use Rattle.tokens.specs.declared.answer.Refusal.the-variants as Refusal
 use Rattle.tokens.specs.declared.answer.Sequence.the-variants as sequence

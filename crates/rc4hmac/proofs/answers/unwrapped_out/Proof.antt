@@ -1,7 +1,5 @@
 -- Each case of the answer.
-use mathlib.Core.Path.{refl, ap, sym, _∙_}
-use Rattle.tokens.specs.Answer.{unwrappedNumber}
-use Rattle.rc4hmac.specs.Answers.{UnwrappedOut}
+use mathlib.Core.Path.{refl}
 use borrow.Author.Needs.{needs}
 use Rattle.rc4hmac.proofs.answers.unwrapped_out.Statement.{statement}
 use Rattle.rc4hmac.proofs.answers.unwrapped_out.Tie as tie

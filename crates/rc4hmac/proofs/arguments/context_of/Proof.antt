@@ -1,8 +1,4 @@
 -- The three fields.
-use mathlib.Core.Path.{ap₂}
-use Rattle.tokens.specs.declared.context.Context.{Context}
-use Rattle.tokens.specs.declared.context.Sender.{Sender}
-use Rattle.tokens.specs.declared.strength.Strength.{Strength}
 use borrow.Author.Needs.{needs}
 use Rattle.rc4hmac.proofs.arguments.context_of.Statement.{statement}
 use Rattle.rc4hmac.proofs.arguments.context_of.Tie as tie

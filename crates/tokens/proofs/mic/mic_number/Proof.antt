@@ -4,13 +4,13 @@
 use mathlib.Core.Path.{_≡_, ap, ap₂, sym, _∙_}
 use mathlib.Core.List.{List}
 use Prim.Native.Nat.{ℕ}
-use lib.ListN.{length, take}
+use lib.ListN.{length}
 use lib.Seq.{length-take-le}
 use Rattle.tokens.specs.Answer.{tested, require, andThen, done, sequenceAnswer}
 use Rattle.tokens.specs.Octets.{same}
 use Rattle.tokens.specs.Mic as Spec
 use Rattle.tokens.specs.Token.{checksumIn, numberIn}
-use Rattle.tokens.specs.declared.answer.Refusal.the-variants.{Header, Checksum}
+use Rattle.tokens.specs.declared.answer.Refusal.the-variants.{Checksum}
 use Rattle.tokens.proofs.Steps.{goes-on, stops, then-on, then-stops, was-number, no-number, sequence-refused}
 use borrow.Author.Needs.{needs}
 use native.Mathlib.Omega.{arith}

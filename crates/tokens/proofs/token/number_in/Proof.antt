@@ -1,6 +1,6 @@
 -- Kseq, SND_SEQ under it, and the test of its direction octets.
 -- the test that was made is the definition's
-use mathlib.Core.Path.{_≡_, ap, ap₂, sym, _∙_}
+use mathlib.Core.Path.{_≡_, ap, ap₂, _∙_}
 use mathlib.Core.List.{List}
 use Prim.Native.Nat.{ℕ, _-_}
 use lib.ListN.{length, take, drop, length-drop}

@@ -1,7 +1,6 @@
 -- The HMAC of the salt for T = 0, with its octets set.
-use mathlib.Core.Path.{_≡_, ap, sym, _∙_}
-use mathlib.Core.List.{List, [], _∷_}
-use Prim.Native.Nat.{ℕ}
+use mathlib.Core.Path.{ap, sym, _∙_}
+use mathlib.Core.List.{[], _∷_}
 use lib.Seq.{length-take-le}
 use Rattle.primitives.specs.Hmac.{hmac}
 use Rattle.primitives.proofs.Laws.{little-endian-four}

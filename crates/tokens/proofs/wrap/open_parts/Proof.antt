@@ -1,7 +1,7 @@
 -- The refusals of the header, the direction, the checksum and the pad, in their order, or the token opened.
 use mathlib.Core.Path.{_≡_, ap, sym, _∙_}
 use mathlib.Core.List.{List, _++_}
-use Prim.Native.Nat.{ℕ, _+_, _≤_}
+use Prim.Native.Nat.{ℕ, _+_}
 use lib.ListN.{length, length-append}
 use Rattle.tokens.specs.Answer.{statusAnswer, sequenceAnswer, sequenceStatus}
 use Rattle.tokens.specs.Token.{checksumIn, numberIn}

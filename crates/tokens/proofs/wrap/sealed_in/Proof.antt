@@ -1,5 +1,5 @@
 -- The two headers in turn.
-use mathlib.Core.Path.{_≡_, ap, sym, _∙_}
+use mathlib.Core.Path.{_≡_, sym, _∙_}
 use mathlib.Core.Bool.{true, false}
 use lib.ListN.{length, take}
 use lib.Seq.{length-take-le}

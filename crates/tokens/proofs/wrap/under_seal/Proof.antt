@@ -1,5 +1,5 @@
 -- One stream under Kcrypt, or nothing.
-use mathlib.Core.Path.{ap, sym, _∙_}
+use mathlib.Core.Path.{ap, _∙_}
 use mathlib.Core.List.{List, _++_}
 use Prim.Native.Nat.{ℕ}
 use Rattle.primitives.specs.Rc4.{rc4}

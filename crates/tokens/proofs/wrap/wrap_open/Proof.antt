@@ -1,7 +1,7 @@
 -- The refusals of the length and the region, in their order, or the region opened; and from that, that opening succeeds exactly on
 -- what the rule writes.
 -- where both have been passed
-use mathlib.Core.Path.{_≡_, ap, sym, _∙_}
+use mathlib.Core.Path.{_≡_, sym, _∙_}
 use Prim.Native.Nat.{_+_, _-_, _≤_}
 use lib.ListN.{length, length-take, length-drop}
 use borrow.Author.Tests.{leb-true}

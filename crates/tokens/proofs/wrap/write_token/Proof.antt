@@ -1,6 +1,6 @@
 -- The front, the confounder and then message and pad, which were written in their place.
 -- the message of a region is that of its body
-use mathlib.Core.Path.{_≡_, sym, ap, _∙_}
+use mathlib.Core.Path.{_≡_, ap, _∙_}
 use mathlib.Core.List.{List}
 use Prim.Native.Nat.{ℕ, _-_, _≤_}
 use lib.ListN.{length, take, drop, length-drop}

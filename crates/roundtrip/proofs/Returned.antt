@@ -31,12 +31,17 @@ use Rattle.roundtrip.specs.Returns.{MessageReturns, MicReturns, WrapRetu
 module _ (written : Outcome (List ℕ)) (buf : List ℕ) (start : ℕ) {w : Extent} {between : List ℕ} (w-is : w ≡ extentAnswer length written)
     (between-is : between ≡ bufferAfter allOctets start buf written) where
   -- the octets that it made stand in the region that it answers
+  left : {octets : List ℕ} → written ≡ done octets → between ≡ placed start octets buf
+  left e = between-is ∙ ap (bufferAfter allOctets start buf) e
+
+  answered : {n : ℕ} {octets : List ℕ} → w ≡ extent.Octets n → written ≡ done octets → n ≡ length octets
+  answered told e = ap extentOctets (sym told ∙ w-is ∙ ap (extentAnswer length) e)
+
   stands : {n : ℕ} {octets : List ℕ} → w ≡ extent.Octets n → written ≡ done octets → start + length octets ≤ length buf → (start + n ≤ length between) × (region start n between ≡ octets)
   stands {n} {octets} told e inside =
-      let size : n ≡ length octets = ap extentOctets (sym told ∙ w-is ∙ ap (extentAnswer length) e) in
-      let left : between ≡ placed start octets buf = between-is ∙ ap (bufferAfter allOctets start buf) e in
-      let long : length between ≡ length buf = ap length left ∙ placed-length start octets buf inside in
-      (omega arith, rw (size, left) (placed-stands start octets buf inside))
+      let size : n ≡ length octets = answered told e in
+      let long : length between ≡ length buf = ap length (left e) ∙ placed-length start octets buf inside in
+      (omega arith, rw (size, left e) (placed-stands start octets buf inside))
 
   not-refused : {n : ℕ} {q : Refusal} → w ≡ extent.Octets n → written ≡ refused q → ⊥
   not-refused {n} {q} told e = never-zero q (sym (ap extentNumber (sym told ∙ w-is ∙ ap (extentAnswer length) e)))
@@ -77,10 +82,11 @@ module _ (key : List ℕ) (strength : Strength) (usage : ℕ) (confounder : List
   message-parts = Message.parts confounder (region (start + 24) len buf)
 
   module _ {w : Extent} {between : List ℕ} (w-is : w ≡ extentAnswer length encrypted) (between-is : between ≡ bufferAfter allOctets start buf encrypted) where
-    pub message-outward : {q : Refusal} → w ≡ extent.Refused q → MessageReturns encrypted message-parts start buf w between
+    pub message-outward : {q : Refusal} → w ≡ extent.Refused q → MessageReturns key strength usage encrypted message-parts start buf w between
     message-outward {q} told =
         record {
           back = λ octets e. absurd (not-done encrypted buf start w-is between-is told e);
+          buffer = λ octets e. absurd (not-done encrypted buf start w-is between-is told e);
           outward = λ p e. (w-is ∙ ap (extentAnswer length) e, unchanged encrypted buf start w-is between-is e);
         }
 
@@ -103,13 +109,15 @@ module _ (key : List ℕ) (strength : Strength) (usage : ℕ) (confounder : List
         )
 
     pub message-returned : length confounder ≡ 8 → Octets confounder → Octets buf → {m : ℕ} {answer : Extent} {after : List ℕ} → w ≡ extent.Octets m
-        → Message.ReadsExactly key strength usage between start m (extentNumber answer) (extentOctets answer) after → MessageReturns encrypted message-parts start buf answer after
-    message-returned eight confounder-octets bytes {m} {answer} {after} told exact =
+        → after ≡ bufferAfter Message.plain (start + 16) between (Message.decryption key strength usage between start m)
+        → Message.ReadsExactly key strength usage between start m (extentNumber answer) (extentOctets answer) after → MessageReturns key strength usage encrypted message-parts start buf answer after
+    message-returned eight confounder-octets bytes {m} {answer} {after} told after-is exact =
         record {
           back = λ octets e.
               let w = message-written eight confounder-octets bytes e in
               let there = stands encrypted buf start w-is between-is told e (w .0) in
               exact .always-then (there .0) message-parts (subst (Message.Written key strength usage message-parts) (sym (there .1)) (w .1));
+          buffer = λ octets e. rw (← left encrypted buf start w-is between-is e, ← answered encrypted buf start w-is between-is told e) after-is;
           outward = λ p e. absurd (not-refused encrypted buf start w-is between-is told e);
         }
 
@@ -120,10 +128,11 @@ module _ (context : Context) (n : ℕ) (text buf : List ℕ) (start : ℕ) where
   signed = Mic.micWriting context n text buf start
 
   module _ {w : Extent} {between : List ℕ} (w-is : w ≡ extentAnswer length signed) (between-is : between ≡ bufferAfter allOctets start buf signed) where
-    pub mic-outward : {q : Refusal} → w ≡ extent.Refused q → MicReturns signed n buf (sequence.Refused q) between
+    pub mic-outward : {q : Refusal} → w ≡ extent.Refused q → MicReturns signed n start buf (sequence.Refused q) between
     mic-outward {q} told =
         record {
           back = λ octets e. absurd (not-done signed buf start w-is between-is told e);
+          buffer = λ octets e. absurd (not-done signed buf start w-is between-is told e);
           outward = λ p e. (ap sequence-too (same-refusal signed buf start w-is between-is told e), unchanged signed buf start w-is between-is e);
         }
 
@@ -134,7 +143,7 @@ module _ (context : Context) (n : ℕ) (text buf : List ℕ) (start : ℕ) where
         (omega (arith, made .1), record { number-fits = fits; text-most = made .0; as-written = sym (made .2) })
 
     pub mic-returned : n < sequenceNumbers → {m : ℕ} {answer : Sequence} → w ≡ extent.Octets m → Mic.ReadsExactly context text between start m (sequenceRefusal answer) (sequenceNumber answer)
-        → MicReturns signed n buf answer between
+        → MicReturns signed n start buf answer between
     mic-returned fits {m} {answer} told exact =
         record {
           back = λ octets e.
@@ -142,6 +151,7 @@ module _ (context : Context) (n : ℕ) (text buf : List ℕ) (start : ℕ) where
               let there = stands signed buf start w-is between-is told e (w .0) in
               let read = exact .always-then (there .0) n (subst (Mic.Written context text n) (sym (there .1)) (w .1)) in
               number-is answer (read .0) (read .1);
+          buffer = λ octets e. left signed buf start w-is between-is e;
           outward = λ p e. absurd (not-refused signed buf start w-is between-is told e);
         }
 
@@ -155,10 +165,11 @@ module _ (context : Context) (n : ℕ) (confounder : List ℕ) (sealed : Bool) (
   wrap-parts = Wrap.parts n sealed confounder (region (start + 32) len buf)
 
   module _ {w : Extent} {between : List ℕ} (w-is : w ≡ extentAnswer length wrapped) (between-is : between ≡ bufferAfter allOctets start buf wrapped) where
-    pub wrap-outward : {q : Refusal} → w ≡ extent.Refused q → WrapReturns wrapped wrap-parts start buf (unwrapped.Refused q) between
+    pub wrap-outward : {q : Refusal} → w ≡ extent.Refused q → WrapReturns context wrapped wrap-parts start buf (unwrapped.Refused q) between
     wrap-outward {q} told =
         record {
           back = λ octets e. absurd (not-done wrapped buf start w-is between-is told e);
+          buffer = λ octets e. absurd (not-done wrapped buf start w-is between-is told e);
           outward = λ p e. (ap unwrapped-too (same-refusal wrapped buf start w-is between-is told e), unchanged wrapped buf start w-is between-is e);
         }
 
@@ -180,13 +191,15 @@ module _ (context : Context) (n : ℕ) (confounder : List ℕ) (sealed : Bool) (
         )
 
     pub wrap-returned : n < sequenceNumbers → length confounder ≡ 8 → Octets confounder → Octets buf → {m : ℕ} {answer : Unwrapped} {after : List ℕ} → w ≡ extent.Octets m
+        → after ≡ bufferAfter Wrap.plain (start + 24) between (Wrap.wrapOpening context between start m)
         → Wrap.OpensExactly context between start m (unwrappedNumber answer) (unwrappedSequence answer) (unwrappedSealed answer) (unwrappedLength answer) after
-        → WrapReturns wrapped wrap-parts start buf answer after
-    wrap-returned fits eight confounder-octets bytes {m} {answer} {after} told exact =
+        → WrapReturns context wrapped wrap-parts start buf answer after
+    wrap-returned fits eight confounder-octets bytes {m} {answer} {after} told after-is exact =
         record {
           back = λ octets e.
               let w = wrap-written fits eight confounder-octets bytes e in
               let there = stands wrapped buf start w-is between-is told e (w .0) in
               exact .always-then (there .0) wrap-parts (subst (Wrap.Written context wrap-parts) (sym (there .1)) (w .1));
+          buffer = λ octets e. rw (← left wrapped buf start w-is between-is e, ← answered wrapped buf start w-is between-is told e) after-is;
           outward = λ p e. absurd (not-refused wrapped buf start w-is between-is told e);
         }

@@ -25,7 +25,7 @@ pub fn encrypt_then_decrypt(
     start: usize,
     len: usize,
 ) -> Extent
-    ensures { λ r. ⌜ MessageReturns (Message.encryption key strength usage confounder (now (buf .entry)) start len) (Message.parts confounder (region (start + 24) len (now (buf .entry)))) start (now (buf .entry)) r (now (buf .exit)) ⌝ }
+    ensures { λ r. ⌜ MessageReturns key strength usage (Message.encryption key strength usage confounder (now (buf .entry)) start len) (Message.parts confounder (region (start + 24) len (now (buf .entry)))) start (now (buf .entry)) r (now (buf .exit)) ⌝ }
 {
     let written = message::encrypt(key, strength, usage, confounder, buf, start, len);
     let Extent::Octets(n) = written else {
@@ -42,7 +42,7 @@ pub fn mic_then_read(
     buf: &mut [u8],
     start: usize,
 ) -> Sequence
-    ensures { λ r. ⌜ MicReturns (Mic.micWriting context sequence (now («data» .entry)) (now (buf .entry)) start) sequence (now (buf .entry)) r (now (buf .exit)) ⌝ }
+    ensures { λ r. ⌜ MicReturns (Mic.micWriting context sequence (now («data» .entry)) (now (buf .entry)) start) sequence start (now (buf .entry)) r (now (buf .exit)) ⌝ }
 {
     match mic::mic_write(context, sequence, data, buf, start) {
         Extent::Octets(n) => mic::mic_read(context, data, buf, start, n),
@@ -60,7 +60,7 @@ pub fn wrap_then_open(
     start: usize,
     len: usize,
 ) -> Unwrapped
-    ensures { λ r. ⌜ WrapReturns (Wrap.wrapWriting context sequence confounder sealed (now (buf .entry)) start len) (Wrap.parts sequence sealed confounder (region (start + 32) len (now (buf .entry)))) start (now (buf .entry)) r (now (buf .exit)) ⌝ }
+    ensures { λ r. ⌜ WrapReturns context (Wrap.wrapWriting context sequence confounder sealed (now (buf .entry)) start len) (Wrap.parts sequence sealed confounder (region (start + 32) len (now (buf .entry)))) start (now (buf .entry)) r (now (buf .exit)) ⌝ }
 {
     match wrap::wrap_write(context, sequence, confounder, sealed, buf, start, len) {
         Extent::Octets(n) => wrap::wrap_open(context, buf, start, n),

@@ -30,7 +30,7 @@ returns-2 : tie.Need-returns-2
 returns-2 c =
     let a = c .before .before .before .before .before .before .before .before .before .before .before .before .args in
     let call = c .before .before .before .before .before .before .before .before .before .encrypt .ensures in
-    message-returned (a .key) (a .strength) (a .usage) (a .confounder) (a .buf .now) (a .start) (a .len) (call .0) (call .1) (eight (c .before .before .before .before .before .before .before .before .before .before .before .before)) (confounder-octets (c .before .before .before .before .before .before .before .before .before .before .before .before)) (bytes (c .before .before .before .before .before .before .before .before .before .before .before)) (c .before .before .before .before .before .written .given .1) (c .before .before .decrypt .ensures .1 .1)
+    message-returned (a .key) (a .strength) (a .usage) (a .confounder) (a .buf .now) (a .start) (a .len) (call .0) (call .1) (eight (c .before .before .before .before .before .before .before .before .before .before .before .before)) (confounder-octets (c .before .before .before .before .before .before .before .before .before .before .before .before)) (bytes (c .before .before .before .before .before .before .before .before .before .before .before)) (c .before .before .before .before .before .written .given .1) (c .before .before .decrypt .ensures .1 .0) (c .before .before .decrypt .ensures .1 .1)
 
 pub encrypt-then-decrypt-spec : {M : Type 1} → statement M
 encrypt-then-decrypt-spec = tie.close (tie.spec (λ c κs. search needs) (λ c. search needs) (λ c. search needs) (λ c. search needs) returns (λ c κs. search needs) (λ c. search needs) returns-2)

@@ -29,7 +29,7 @@ returns : tie.Need-returns
 returns c =
     let a = c .before .before .before .before .before .before .before .before .before .before .before .before .args in
     let call = c .before .before .before .before .before .before .before .before .before .wrap-write .ensures in
-    wrap-returned (a .context) (a .sequence) (a .confounder) (a .sealed) (a .buf .now) (a .start) (a .len) (call .0) (call .1) (fits (c .before .before .before .before .before .before .before .before .before .before .before .before)) (eight (c .before .before .before .before .before .before .before .before .before .before .before .before)) (confounder-octets (c .before .before .before .before .before .before .before .before .before .before .before .before)) (bytes (c .before .before .before .before .before .before .before .before .before .before .before)) (c .before .before .before .before .before .n .given .1) (c .before .before .wrap-open .ensures .1 .1)
+    wrap-returned (a .context) (a .sequence) (a .confounder) (a .sealed) (a .buf .now) (a .start) (a .len) (call .0) (call .1) (fits (c .before .before .before .before .before .before .before .before .before .before .before .before)) (eight (c .before .before .before .before .before .before .before .before .before .before .before .before)) (confounder-octets (c .before .before .before .before .before .before .before .before .before .before .before .before)) (bytes (c .before .before .before .before .before .before .before .before .before .before .before)) (c .before .before .before .before .before .n .given .1) (c .before .before .wrap-open .ensures .1 .0) (c .before .before .wrap-open .ensures .1 .1)
 
 returns-2 : tie.Need-returns-2
 returns-2 c =

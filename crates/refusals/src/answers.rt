@@ -1,4 +1,5 @@
 // The answers of the calls as lines: the number of the refusal, the values, zeros with a refusal, and whether the buffer is as it was.
+use crate::text;
 use tokens::answer::Digest;
 use tokens::answer::Extent;
 use tokens::answer::Sequence;
@@ -22,93 +23,93 @@ fn same(before: &[u8], after: &[u8]) -> bool {
 
 fn write_buffer(before: &[u8], after: &[u8]) {
     if same(before, after) {
-        lines::write(b" unchanged\n");
+        text::write(b" unchanged\n");
     } else {
-        lines::write(b" changed\n");
+        text::write(b" changed\n");
     }
 }
 
 fn write_number(number: u32) {
-    lines::write_decimal(number as usize);
+    text::write_decimal(number as usize);
 }
 
 pub fn write_status(name: &[u8], status: Status) {
-    lines::write(name);
-    lines::write(b": ");
+    text::write(name);
+    text::write(b": ");
     match status {
-        Status::Done => lines::write(b"0"),
+        Status::Done => text::write(b"0"),
         Status::Refused(refusal) => write_number(refusal.number()),
     }
-    lines::write(b"\n");
+    text::write(b"\n");
 }
 
 pub fn write_digest(name: &[u8], answer: Digest) {
     let status = answer.status;
     let octets = answer.octets;
-    lines::write(name);
-    lines::write(b": ");
+    text::write(name);
+    text::write(b": ");
     match status {
-        Status::Done => lines::write(b"0"),
+        Status::Done => text::write(b"0"),
         Status::Refused(refusal) => write_number(refusal.number()),
     }
-    lines::write(b" ");
-    lines::write_hex(&octets);
-    lines::write(b"\n");
+    text::write(b" ");
+    text::write_hex(&octets);
+    text::write(b"\n");
 }
 
 pub fn write_extent(name: &[u8], answer: Extent, before: &[u8], after: &[u8]) {
-    lines::write(name);
-    lines::write(b": ");
+    text::write(name);
+    text::write(b": ");
     match answer {
         Extent::Octets(n) => {
-            lines::write(b"0 ");
-            lines::write_decimal(n);
+            text::write(b"0 ");
+            text::write_decimal(n);
         }
         Extent::Refused(refusal) => {
             write_number(refusal.number());
-            lines::write(b" 0");
+            text::write(b" 0");
         }
     }
     write_buffer(before, after);
 }
 
 pub fn write_sequence(name: &[u8], answer: Sequence) {
-    lines::write(name);
-    lines::write(b": ");
+    text::write(name);
+    text::write(b": ");
     match answer {
         Sequence::Number(n) => {
-            lines::write(b"0 ");
+            text::write(b"0 ");
             write_number(n);
         }
         Sequence::Refused(refusal) => {
             write_number(refusal.number());
-            lines::write(b" 0");
+            text::write(b" 0");
         }
     }
-    lines::write(b"\n");
+    text::write(b"\n");
 }
 
 pub fn write_unwrapped(name: &[u8], answer: Unwrapped, before: &[u8], after: &[u8]) {
-    lines::write(name);
-    lines::write(b": ");
+    text::write(name);
+    text::write(b": ");
     match answer {
         Unwrapped::Message {
             sequence: n,
             sealed: sealed,
             length: length,
         } => {
-            lines::write(b"0 ");
+            text::write(b"0 ");
             write_number(n);
             if sealed {
-                lines::write(b" sealed ");
+                text::write(b" sealed ");
             } else {
-                lines::write(b" clear ");
+                text::write(b" clear ");
             }
-            lines::write_decimal(length);
+            text::write_decimal(length);
         }
         Unwrapped::Refused(refusal) => {
             write_number(refusal.number());
-            lines::write(b" 0 clear 0");
+            text::write(b" 0 clear 0");
         }
     }
     write_buffer(before, after);

@@ -4,6 +4,7 @@ mod answers;
 mod messages;
 mod mic_tokens;
 mod samples;
+mod text;
 mod wrap_tokens;
 
 fn main() {

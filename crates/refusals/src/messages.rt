@@ -1,6 +1,7 @@
 // The keyed checksum and encrypted messages.
 use crate::answers;
 use crate::samples;
+use crate::text;
 use tokens::checksum;
 use tokens::message;
 use tokens::strength::Strength;
@@ -112,11 +113,11 @@ fn write_message(name: &[u8], strength: Strength, usage: u32, buf: &mut [u8], le
         0,
         len,
     );
-    lines::write(b"message ");
-    lines::write(name);
-    lines::write(b": ");
-    lines::write_hex(buf);
-    lines::write(b"\n");
+    text::write(b"message ");
+    text::write(name);
+    text::write(b": ");
+    text::write_hex(buf);
+    text::write(b"\n");
 }
 
 fn whole_messages() {
@@ -135,11 +136,11 @@ fn whole_messages() {
 fn write_checksum(name: &[u8], usage: u32, data: &[u8]) {
     let answer = checksum::checksum(samples::KEY, usage, data);
     let octets = answer.octets;
-    lines::write(b"checksum ");
-    lines::write(name);
-    lines::write(b": ");
-    lines::write_hex(&octets);
-    lines::write(b"\n");
+    text::write(b"checksum ");
+    text::write(name);
+    text::write(b": ");
+    text::write_hex(&octets);
+    text::write(b"\n");
 }
 
 fn whole_checksums() {

@@ -1,6 +1,7 @@
 // MIC tokens.
 use crate::answers;
 use crate::samples;
+use crate::text;
 use tokens::context::Context;
 use tokens::context::Sender;
 use tokens::mic;
@@ -72,11 +73,11 @@ pub fn refused() {
 fn write_token(name: &[u8], context: Context, data: &[u8]) {
     let mut token = [0u8; 24];
     mic::mic_write(context, samples::SEQUENCE, data, &mut token, 0);
-    lines::write(b"mic ");
-    lines::write(name);
-    lines::write(b": ");
-    lines::write_hex(&token);
-    lines::write(b"\n");
+    text::write(b"mic ");
+    text::write(name);
+    text::write(b": ");
+    text::write_hex(&token);
+    text::write(b"\n");
 }
 
 // Tokens over no data and over 300 octets.

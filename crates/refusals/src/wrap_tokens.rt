@@ -1,6 +1,7 @@
 // Wrap tokens.
 use crate::answers;
 use crate::samples;
+use crate::text;
 use primitives::whole;
 use tokens::context::Context;
 use tokens::context::Sender;
@@ -176,10 +177,10 @@ fn token_of_five(sealed: bool) -> [u8; 38] {
 // A token opened for each role. Each line begins with the kind of token.
 fn open_whole(kind: &[u8], token: [u8; 38]) {
     let mut right = token;
-    lines::write(kind);
+    text::write(kind);
     read(b"wrap_open", Sender::Initiator, &mut right, 0, 38, &token);
     let mut wrong = token;
-    lines::write(kind);
+    text::write(kind);
     read(
         b"wrap_open from the wrong role",
         Sender::Acceptor,
@@ -195,7 +196,7 @@ fn open_changed(kind: &[u8], token: [u8; 38]) {
     let mut changed = token;
     changed[36] = changed[36] ^ 0x01;
     let before = changed;
-    lines::write(kind);
+    text::write(kind);
     read(
         b"wrap_open of a changed message",
         Sender::Initiator,
@@ -208,7 +209,7 @@ fn open_changed(kind: &[u8], token: [u8; 38]) {
     des[4] = 0x00;
     des[5] = 0x00;
     let came = des;
-    lines::write(kind);
+    text::write(kind);
     read(
         b"wrap_open of DES's SEAL_ALG",
         Sender::Initiator,
@@ -249,12 +250,12 @@ pub fn refused() {
 }
 
 fn write_name(name: &[u8], sealed: bool) {
-    lines::write(b"wrap ");
-    lines::write(name);
+    text::write(b"wrap ");
+    text::write(name);
     if sealed {
-        lines::write(b" sealed");
+        text::write(b" sealed");
     } else {
-        lines::write(b" clear");
+        text::write(b" clear");
     }
 }
 
@@ -277,22 +278,22 @@ fn write_tokens(name: &[u8], context: Context, sealed: bool) {
     let mut empty = [0u8; 33];
     make_token(context, sealed, &mut empty, 0);
     write_name(name, sealed);
-    lines::write(b" 0: ");
-    lines::write_hex(&empty);
-    lines::write(b"\n");
+    text::write(b" 0: ");
+    text::write_hex(&empty);
+    text::write(b"\n");
     let mut short = [0u8; 333];
     make_token(context, sealed, &mut short, 300);
     write_name(name, sealed);
-    lines::write(b" 300: ");
-    lines::write_hex(&short);
-    lines::write(b"\n");
+    text::write(b" 300: ");
+    text::write_hex(&short);
+    text::write(b"\n");
     let mut long = [0u8; 32801];
     make_token(context, sealed, &mut long, 32768);
     write_name(name, sealed);
-    lines::write(b" 32768 md5: ");
+    text::write(b" 32768 md5: ");
     let digest = whole::md5(&long).octets;
-    lines::write_hex(&digest);
-    lines::write(b"\n");
+    text::write_hex(&digest);
+    text::write(b"\n");
 }
 
 fn write_context(name: &[u8], context: Context) {

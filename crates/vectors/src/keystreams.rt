@@ -11,10 +11,10 @@ fn write_at(stream: &[u8], offset: usize) {
         return;
     }
     let end = offset + 16;
-    lines::write_decimal(offset);
-    lines::write(b": ");
-    lines::write_hex(&stream[offset..end]);
-    lines::write(b"\n");
+    text::write_decimal(offset);
+    text::write(b": ");
+    text::write_hex(&stream[offset..end]);
+    text::write(b"\n");
 }
 
 fn write_offsets(stream: &[u8]) {
@@ -41,11 +41,11 @@ fn write_offsets(stream: &[u8]) {
 fn write_stream(key: &[u8]) {
     let mut stream = [0u8; 4112];
     let status = whole::rc4(key, &mut stream);
-    lines::write(b"RFC 6229 ");
-    lines::write_hex(key);
-    lines::write(b": ");
+    text::write(b"RFC 6229 ");
+    text::write_hex(key);
+    text::write(b": ");
     text::write_status(status);
-    lines::write(b"\n");
+    text::write(b"\n");
     write_offsets(&stream);
 }
 

@@ -44,12 +44,12 @@ fn hmac_md5() {
 fn write_key(name: &[u8], key: &[u8]) {
     let mut data = [0x5au8; 16];
     let status = whole::rc4(key, &mut data);
-    lines::write(name);
-    lines::write(b": ");
+    text::write(name);
+    text::write(b": ");
     text::write_status(status);
-    lines::write(b" ");
-    lines::write_hex(&data);
-    lines::write(b"\n");
+    text::write(b" ");
+    text::write_hex(&data);
+    text::write(b"\n");
 }
 
 // Data run through RC4 under one key: the status, the last octet afterwards, and the MD5 digest of those before it.
@@ -60,11 +60,11 @@ fn write_long(name: &[u8], data: &mut [u8]) {
         return;
     }
     let end = n - 1;
-    lines::write(name);
-    lines::write(b": ");
+    text::write(name);
+    text::write(b": ");
     text::write_status(status);
-    lines::write(b" ");
-    lines::write_hex(&data[end..]);
+    text::write(b" ");
+    text::write_hex(&data[end..]);
     text::write_digest(b" md5", whole::md5(&data[..end]));
 }
 

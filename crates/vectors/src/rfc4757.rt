@@ -1,25 +1,26 @@
 // RFC 4757: the key of the password "foo" (section 2), and the number and T of each usage by its name (section 3).
+use crate::text;
 use tokens::key;
 use tokens::usage::Usage;
 
 fn write_key(name: &[u8], units: &[u16]) {
     let answer = key::password_key(units);
     let octets = answer.octets;
-    lines::write(name);
-    lines::write(b": ");
-    lines::write_hex(&octets);
-    lines::write(b"\n");
+    text::write(name);
+    text::write(b": ");
+    text::write_hex(&octets);
+    text::write(b"\n");
 }
 
 fn write_type(name: &[u8], number: u32) {
     let named = Usage::new(number);
     let t = named.usage.t;
-    lines::write(name);
-    lines::write(b": ");
-    lines::write_decimal(number as usize);
-    lines::write(b" ");
-    lines::write_hex(&t);
-    lines::write(b"\n");
+    text::write(name);
+    text::write(b": ");
+    text::write_decimal(number as usize);
+    text::write(b" ");
+    text::write_hex(&t);
+    text::write(b"\n");
 }
 
 pub fn run() {

@@ -1,12 +1,33 @@
-// The answers of the primitives as lines.
+// The lines that the program writes.
+use libc::STDOUT_FILENO;
 use primitives::limits::Status;
 use primitives::whole::Digest;
+
+// Octets as they are.
+pub fn write(octets: &[u8]) {
+    io::write_all(STDOUT_FILENO, octets);
+}
+
+// Octets in hexadecimal.
+pub fn write_hex(octets: &[u8]) {
+    let mut i: usize = 0;
+    while i < octets.len() {
+        let octet = octets[i] as u64;
+        io::print_hex(STDOUT_FILENO, octet, 2);
+        i += 1;
+    }
+}
+
+// A number in decimal.
+pub fn write_decimal(n: usize) {
+    io::print_decimal(STDOUT_FILENO, n as u64);
+}
 
 // The number of a status.
 pub fn write_status(status: Status) {
     match status {
-        Status::Done => lines::write(b"0"),
-        Status::Length => lines::write(b"1"),
+        Status::Done => write(b"0"),
+        Status::Length => write(b"1"),
     }
 }
 
@@ -14,10 +35,10 @@ pub fn write_status(status: Status) {
 pub fn write_digest(name: &[u8], answer: Digest) {
     let status = answer.status;
     let octets = answer.octets;
-    lines::write(name);
-    lines::write(b": ");
+    write(name);
+    write(b": ");
     write_status(status);
-    lines::write(b" ");
-    lines::write_hex(&octets);
-    lines::write(b"\n");
+    write(b" ");
+    write_hex(&octets);
+    write(b"\n");
 }

@@ -1,17 +1,17 @@
 -- Reading succeeds exactly on what the rule writes: of the octets of an encrypted message, and of a region of a buffer.
 use mathlib.Core.Path.{_≡_, refl, sym, ap, _∙_, subst}
 use mathlib.Core.Bool.{true}
-use mathlib.Core.List.{List, _++_, append-assoc}
+use mathlib.Core.List.{List}
 use Prim.Native.Nat.{ℕ, _+_, _-_, _≤_}
 use native.Mathlib.Omega.{arith}
 use lib.ListN.{length, take, drop, length-append, length-drop, take-append-drop}
-use lib.Seq.{take-at, drop-at, drop-drop, length-take-le}
+use lib.Seq.{take-at, drop-at, length-take-le}
 use borrow.Author.Tests.{leb-true, le-leb}
 use Rattle.primitives.specs.Octets.{Octets}
 use Rattle.primitives.specs.Rc4.{rc4, keySchedule}
 use Rattle.primitives.proofs.Laws.{apply-length, apply-octets, apply-twice, schedule-octets}
 use Rattle.tokens.specs.Answer.{Outcome, done, require, extentNumber, extentOctets, extentAnswer}
-use Rattle.tokens.specs.Limits.{mostMessage, region, placed, bufferAfter}
+use Rattle.tokens.specs.Limits.{mostMessage, region, bufferAfter}
 use Rattle.tokens.specs.Message.{Parts, messageLength, plain, k3, messageChecksum, encrypt, overhead, decrypted, apart, opened, decryption, Written, HandedBack, ReadsExactly}
 use Rattle.tokens.specs.Octets.{same}
 use Rattle.tokens.specs.Usage.{leastUsage, mostUsage, typeOctets}

@@ -5,13 +5,13 @@ use mathlib.Core.List.{List, [], _∷_, _++_, append-assoc}
 use Prim.Native.Nat.{ℕ, zero, suc, _+_, _-_, _≤_, _<_}
 use native.Mathlib.Omega.{arith}
 use lib.ListN.{length, getD, take, drop, length-append, length-drop, take-append-drop}
-use lib.Seq.{take-at, drop-at, getD-at, getD-drop, drop-drop, length-take-le}
+use lib.Seq.{take-at, drop-at, getD-at, getD-drop, length-take-le}
 use borrow.Author.Tests.{eqb-true, eq-eqb, leb-true, le-leb}
 use Rattle.primitives.specs.Octets.{Octets}
 use Rattle.primitives.specs.Rc4.{keySchedule}
 use Rattle.primitives.proofs.Laws.{apply-octets, apply-twice, schedule-octets}
 use Rattle.tokens.specs.Answer.{Outcome, done, require, andThen, unwrappedNumber, unwrappedSequence, unwrappedSealed, unwrappedLength}
-use Rattle.tokens.specs.Limits.{mostMessage, region, placed, bufferAfter}
+use Rattle.tokens.specs.Limits.{mostMessage, region, bufferAfter}
 use Rattle.tokens.specs.Octets.{same}
 use Rattle.tokens.specs.Token.{sequenceNumbers, sealingKey, front, headerIn, checksumIn, numberIn}
 use Rattle.tokens.specs.Wrap.{Parts, header, plain, wrapChecksum, underSeal, wrapToken, sealedIn, apart, verified, opened, wrapOpening, unwrappedAnswer, Written, HandedBack, OpensExactly}

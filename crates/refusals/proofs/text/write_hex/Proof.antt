@@ -3,8 +3,8 @@ use Prim.Native.Nat.{_≤_, _-_}
 use lib.ListN.{length}
 use borrow.Author.Needs.{needs}
 use native.Mathlib.Omega.{arith}
-use Rattle.lines.proofs.write_hex.Statement.{statement}
-use Rattle.lines.proofs.write_hex.Tie as tie
+use Rattle.refusals.proofs.text.write_hex.Statement.{statement}
+use Rattle.refusals.proofs.text.write_hex.Tie as tie
 
 abbrev Inv-loop : tie.InvT-loop
 Inv-loop octets i₀ i = i ≤ length octets

@@ -1,5 +1,4 @@
-// Text for the programs to write to standard output. There is no definition of what stands there, so these functions promise
-// nothing: what a program writes is held to its file `stdout`.
+// What the lines are written with.
 use libc::STDOUT_FILENO;
 
 // Octets as they are.

@@ -1,8 +1,11 @@
 -- The answers of the C interface: the number that a call answers, and what it leaves behind each pointer, zeros with a refusal.
 use mathlib.Core.Path.{_≡_}
-use mathlib.Core.Bool.{Bool, true, false}
-use mathlib.Core.List.{List}
+use mathlib.Core.Bool.{Bool, true, false, cond}
+use mathlib.Core.List.{List, [], _∷_}
 use Prim.Native.Nat.{ℕ}
+use Rattle.billing.specs.Receive.{number, isBilled}
+use Rattle.billing.specs.declared.receive.Received.{Received}
+use Rattle.billing.specs.declared.window.Window.{Window}
 use Rattle.tokens.specs.Answer.{statusNumber, extentNumber, extentOctets, sequenceRefusal, sequenceNumber, unwrappedNumber, unwrappedSequence, unwrappedSealed, unwrappedLength}
 use Rattle.tokens.specs.declared.answer.Digest.{Digest}
 use Rattle.tokens.specs.declared.answer.Extent.{Extent}
@@ -35,3 +38,13 @@ pub record UnwrappedOut (unwrapped : Unwrapped) (answer sequence sealed length :
   pub sequence-is : sequence ≡ unwrappedSequence unwrapped
   pub sealed-is : sealed ≡ flagNumber (unwrappedSealed unwrapped)
   pub length-is : length ≡ unwrappedLength unwrapped
+
+-- a window as four numbers
+abbrev pub windowWords : Window → List ℕ
+windowWords w = w .first ∷ w .next ∷ w .seen ∷ w .billed ∷ []
+
+-- what came of a number: the number of its status, 0 where there is none, and the window if it was billed; else the four numbers are as
+-- they came
+pub record ReceivedOut (received : Received) (words after : List ℕ) (status : ℕ) : Type 0 where
+  pub status-is : status ≡ number (received .status)
+  pub window-is : after ≡ cond (isBilled (received .status)) (windowWords (received .window)) words

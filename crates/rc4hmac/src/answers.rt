@@ -1,7 +1,9 @@
 // The answers of the calls as C sees them: the number of a refusal, and the values behind pointers, zeros with a refusal.
 ghost use mathlib.Core.Path.{_≡_};
 ghost use Rattle.tokens.specs.Answer.{statusNumber};
-ghost use Rattle.rc4hmac.specs.Answers.{flagNumber, DigestOut, ExtentOut, SequenceOut, UnwrappedOut};
+ghost use Rattle.rc4hmac.specs.Answers.{flagNumber, windowWords, DigestOut, ExtentOut, SequenceOut, UnwrappedOut, ReceivedOut};
+use billing::receive::Received;
+use billing::window::Window;
 use tokens::answer::Digest;
 use tokens::answer::Extent;
 use tokens::answer::Sequence;
@@ -96,5 +98,29 @@ pub fn unwrapped_out(
             *len = 0;
             refusal.number()
         }
+    }
+}
+
+// A window goes out as four numbers.
+pub fn window_out(window: Window, out: &mut [u64; 4])
+    ensures { λ _. ⌜ now (out .exit) ≡ windowWords window ⌝ }
+{
+    *out = [
+        window.first as u64,
+        window.next as u64,
+        window.seen,
+        window.billed,
+    ];
+}
+
+// What came of a number goes out: its status, and the window if the number was billed.
+pub fn received_out(received: Received, window: &mut [u64; 4], status: &mut u32)
+    ensures { λ _. ⌜ ReceivedOut received (now (window .entry)) (now (window .exit)) (now (status .exit)) ⌝ }
+{
+    let given = received.status;
+    *status = given.number();
+    if given.is_billed() {
+        let after = received.window;
+        window_out(after, window);
     }
 }

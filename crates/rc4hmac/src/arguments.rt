@@ -1,6 +1,7 @@
-// The arguments of the calls as C gives them: a number that is 0 for no and anything else for yes.
+// The arguments of the calls as C gives them: a number that is 0 for no and anything else for yes, and a window as four numbers.
 ghost use mathlib.Core.Path.{_≡_};
-ghost use Rattle.rc4hmac.specs.Arguments.{isYes, strengthOf, senderOf, contextOf};
+ghost use Rattle.rc4hmac.specs.Arguments.{isYes, strengthOf, senderOf, contextOf, windowOf};
+use billing::window::Window;
 use tokens::context::Context;
 use tokens::context::Sender;
 use tokens::strength::Strength;
@@ -43,5 +44,17 @@ pub fn context_of(key: &[u8; 16], export: u32, acceptor: u32) -> Context
         key: octets,
         strength: strength_of(export),
         sender: sender_of(acceptor),
+    }
+}
+
+// The window that four numbers hold. Any four will do: the first number and the next expected distance are taken modulo 2^32.
+pub fn window_of(words: [u64; 4]) -> Window
+    ensures { λ r. ⌜ r ≡ windowOf words ⌝ }
+{
+    Window {
+        first: (words[0] % 4294967296) as u32,
+        next: (words[1] % 4294967296) as u32,
+        seen: words[2],
+        billed: words[3],
     }
 }

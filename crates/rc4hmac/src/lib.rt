@@ -5,3 +5,4 @@ mod answers;
 mod arguments;
 mod gss_tokens;
 mod messages;
+mod receive_window;

@@ -1,0 +1,2 @@
+-- The laws of the window's code.
+mod Numbers

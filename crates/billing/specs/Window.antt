@@ -55,9 +55,12 @@ after Duplicate w d = w
 after Old w d = w
 after Outside w d = w
 
+abbrev pub receipt : Status → Window → Receipt
+receipt status w = record { status = status; window = w }
+
 -- the status of a number at the distance d, and the window after it
 abbrev pub stepAt : Window → ℕ → Receipt
-stepAt w d = record { status = statusIn w d; window = after (statusIn w d) w d }
+stepAt w d = receipt (statusIn w d) (after (statusIn w d) w d)
 
 -- the status of a sequence number, and the window after it
 unfoldable pub step : Window → ℕ → Receipt

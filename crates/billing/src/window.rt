@@ -88,6 +88,16 @@ impl Window {
         }
     }
 
+    // A status, with this window after it.
+    fn with(self, status: Status) -> Receipt
+        ensures { λ r. ⌜ r ≡ Spec.receipt status self ⌝ }
+    {
+        Receipt {
+            status: status,
+            window: self,
+        }
+    }
+
     // Gives a sequence number its status, and bills it if it is in order, a gap or late.
     pub fn bill(self, sequence: u32) -> Receipt
         ensures { λ r. ⌜ r ≡ Spec.step self sequence ⌝ }
@@ -95,40 +105,22 @@ impl Window {
         let next = self.next;
         let distance = std::num::wrapping_sub_u32(sequence, self.first);
         if OUTSIDE_FROM <= distance {
-            return Receipt {
-                status: Status::Outside,
-                window: self,
-            };
+            return self.with(Status::Outside);
         }
         if distance == next {
-            return Receipt {
-                status: Status::InOrder,
-                window: self.advanced(distance),
-            };
+            return self.advanced(distance).with(Status::InOrder);
         }
         if next < distance {
-            return Receipt {
-                status: Status::Gap,
-                window: self.advanced(distance),
-            };
+            return self.advanced(distance).with(Status::Gap);
         }
         let place = next - 1 - distance;
         if MARKS <= place {
-            return Receipt {
-                status: Status::Old,
-                window: self,
-            };
+            return self.with(Status::Old);
         }
         if self.is_marked(place) {
-            return Receipt {
-                status: Status::Duplicate,
-                window: self,
-            };
+            return self.with(Status::Duplicate);
         }
-        Receipt {
-            status: Status::Late,
-            window: self.filled(place),
-        }
+        self.filled(place).with(Status::Late)
     }
 
     // How many of the last sixty-four distances below the next expected one, or of all if they are fewer, are not marked.

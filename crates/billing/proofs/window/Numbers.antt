@@ -10,9 +10,8 @@ use lib.Dec.{lit<}
 use lib.Pow.{pow-pos, shl-exact}
 use Rattle.tokens.specs.Token.{sequenceNumbers}
 use Rattle.billing.specs.Status.{distance, statusAt}
-use Rattle.billing.specs.Window.{isMarked, placeOf, statusIn, after, stepAt, step, missing, inUse}
+use Rattle.billing.specs.Window.{isMarked, placeOf, statusIn, after, receipt, stepAt, step, missing, inUse}
 use Rattle.billing.specs.declared.status.Status.{Status}
-use Rattle.billing.specs.declared.window.Receipt.{Receipt}
 use Rattle.billing.specs.declared.window.Window.{Window}
 use Rattle.billing.proofs.Cases.{Case, status-of}
 
@@ -22,15 +21,12 @@ unfolding distance
 is-distance first n d hf hd e = omega arith
 
 -- a status by its case, and the window after it, are the step
-pub takes : (w : Window) (n d : ℕ) (s : Status) (v : Window) → d ≡ distance (w .first) n → Case (w .next) (isMarked (w .seen) (placeOf w d)) d s
-    → v ≡ after s w d → _≡_ {A = Receipt} (record { status = s; window = v }) (step w n)
+pub takes : (w : Window) (n d : ℕ) {s : Status} {v : Window} → d ≡ distance (w .first) n → Case (w .next) (isMarked (w .seen) (placeOf w d)) d s
+    → v ≡ after s w d → receipt s v ≡ step w n
 unfolding step
-takes w n d s v e case after-is =
+takes w n d {s} e case after-is =
     let told : s ≡ statusIn w d = sym (status-of (w .next) (isMarked (w .seen) (placeOf w d)) d case) in
     ap (receipt s) after-is ∙ ap (λ (t : Status). receipt t (after t w d)) told ∙ ap (stepAt w) e
-  where
-    receipt : Status → Window → Receipt
-    receipt t u = record { status = t; window = u }
 
 -- 1 moved up by fewer than 64 places
 pub one-moved : (k : ℕ) → k < 64 → 1 * 2 ^ k % 2 ^ 64 ≡ 2 ^ k

@@ -10,7 +10,7 @@ sub-result : tie.Need-sub-result
 sub-result c = ones-le 64 (c .before .before .args .self .seen) (search needs)
 
 returns : tie.Need-returns
-returns c = many-missing (c .before .before .args .self) (c .before .if1 .taken) (search needs)
+returns c = many-missing (c .before .before .args .self) (search needs) (search needs)
 
 sub-result-2 : tie.Need-sub-result-2
 sub-result-2 c = let w = c .before .args .self in rw (one-moved (w .next) (c .if1 .left)) (pow-pos (w .next))

@@ -1,6 +1,7 @@
 /* The C interface of librc4hmac.a: the keys, checksums, encrypted messages, MIC
- * tokens and Wrap tokens of RC4-HMAC (RFC 4757), and MD4, MD5, HMAC-MD5 and RC4
- * under them, over octets in memory, for x86-64 Linux. */
+ * tokens and Wrap tokens of RC4-HMAC (RFC 4757), receive windows for the tokens
+ * of a session, and MD4, MD5, HMAC-MD5 and RC4 under them, over octets in
+ * memory, for x86-64 Linux. */
 
 #ifndef RC4HMAC_H
 #define RC4HMAC_H
@@ -13,18 +14,19 @@ extern "C" {
 #endif
 
 /* Every function answers a refusal number, the lowest that applies. With a
- * refusal every digest, key, checksum, length and number written is zero, and
- * no octet of lent data is changed.
+ * refusal every digest, key, checksum, length, number and status written is
+ * zero, and no octet of lent data and no word of a window is changed.
  *
  * Assumed of a caller:
  *   - a pointer with a length beside it is followed by as many octets, or
  *     16-bit units, as the length says; it may be null, or point nowhere, only
  *     where the length is 0;
  *   - a pointer to a fixed number of octets (a key, a confounder, a digest or
- *     a checksum declared with its length) or to a length or a number to be
- *     written is never null, and all that it points to may be read or written;
- *   - units, and lengths and numbers to be written, are aligned as their types
- *     ask;
+ *     a checksum declared with its length), to the four words of a window, or
+ *     to a length, a number or a status to be written is never null, and all
+ *     that it points to may be read or written;
+ *   - units, the words of a window, and lengths, numbers and statuses to be
+ *     written are aligned as their types ask;
  *   - the areas lent to one call do not overlap. */
 
 /* Refusal numbers. */
@@ -36,6 +38,16 @@ extern "C" {
 #define RC4HMAC_REFUSED_DIRECTION 5u /* not from the expected sender */
 #define RC4HMAC_REFUSED_CHECKSUM 6u  /* the checksum differs */
 #define RC4HMAC_REFUSED_PAD 7u       /* the pad octet is not 01 */
+
+/* Statuses of a sequence number in a receive window, with their names in RFC
+ * 2743, section 1.2.3; the last has none there. */
+#define RC4HMAC_STATUS_NONE 0u      /* the token was refused */
+#define RC4HMAC_STATUS_IN_ORDER 1u  /* billed: GSS_S_COMPLETE */
+#define RC4HMAC_STATUS_GAP 2u       /* billed: GSS_S_GAP_TOKEN */
+#define RC4HMAC_STATUS_LATE 3u      /* billed: GSS_S_UNSEQ_TOKEN */
+#define RC4HMAC_STATUS_DUPLICATE 4u /* not billed: GSS_S_DUPLICATE_TOKEN */
+#define RC4HMAC_STATUS_OLD 5u       /* not billed: GSS_S_OLD_TOKEN */
+#define RC4HMAC_STATUS_OUTSIDE 6u   /* not billed: 2^31 or more off the first */
 
 /* Lengths and limits, in octets. A limit is the last length let in. */
 #define RC4HMAC_DIGEST_LEN 16u
@@ -58,6 +70,10 @@ extern "C" {
 #define RC4HMAC_WRAP_MESSAGE_OFFSET 32u
 #define RC4HMAC_WRAP_MIN 33u
 #define RC4HMAC_WRAP_MAX 32801u
+
+/* The words of a window, and the distances that it keeps a mark for. */
+#define RC4HMAC_WINDOW_WORDS 4u
+#define RC4HMAC_WINDOW_MARKS 64u
 
 /* Usages, by their numbers in RFC 4757, section 3. The message type T is the
  * usage's number, but usages 3 and 9 have T = 8, as usage 8 has: each of the
@@ -200,6 +216,78 @@ uint32_t rc4hmac_wrap_open(const uint8_t key[16], uint32_t export_strength,
                            size_t start, size_t length,
                            uint32_t *sequence, uint32_t *sealed,
                            size_t *message_len);
+
+/* The receive window of a session, which bills each sequence number once.
+ *
+ * The distance of a number is the number minus the session's first, modulo
+ * 2^32. The next expected distance is 0 for a new window and then one above the
+ * highest billed. A number's status is the first of these that applies:
+ *   - outside: its distance is 2^31 or more. So once distance 2^31 - 1 has been
+ *     billed the number that follows it is outside, and not in order;
+ *   - in order: its distance is the next expected one;
+ *   - gap: its distance is above that;
+ *   - late, or duplicate if it has been billed: its distance is below that by
+ *     at most RC4HMAC_WINDOW_MARKS;
+ *   - old: its distance is further below.
+ * In order, gap and late are billed; nothing else is, and nothing else changes
+ * the window.
+ *
+ * The status is written to `status`. The answer is a refusal number here too,
+ * 0 for every status: a caller who looks for 0 alone drops no billed token, but
+ * has to look at the status before billing.
+ *
+ * A window is four words that the caller keeps, with nothing else behind them:
+ *   0  the first number;
+ *   1  the next expected distance;
+ *   2  the marks of the distances below that: bit k is set if the distance that
+ *      is 1 + k below it has been billed;
+ *   3  how many numbers have been billed.
+ * The calls take any four words: the first two modulo 2^32, and the count grows
+ * modulo 2^64. A call that bills writes all four, and the first two are below
+ * 2^32 then; any other leaves all four exactly as they came.
+ *
+ * What is billed once is the number that a token presents when it opens. The
+ * number of a MIC token, and of a Wrap token that is not sealed, is under no
+ * checksum: an attacker who changes octets 8 to 11 of such a token has it
+ * billed under another number, and again under each further one. A sealed token
+ * so changed is refused, but for one chance in 2^64. */
+
+/* A new window for a session whose first sequence number is `first`. Answers
+ * 0. */
+uint32_t rc4hmac_window_new(uint32_t first, uint64_t window[4]);
+
+/* Bills a sequence number, or does not, by its status. Answers 0. */
+uint32_t rc4hmac_window_bill(uint64_t window[4], uint32_t sequence,
+                             uint32_t *status);
+
+/* How many of the RC4HMAC_WINDOW_MARKS distances below the next expected one,
+ * or of all below it if they are fewer, have not been billed: 0 for a new
+ * window. Answers 0. */
+uint32_t rc4hmac_window_missing(const uint64_t window[4], uint32_t *missing);
+
+/* Opens a Wrap token as rc4hmac_wrap_open does, and bills its sequence number
+ * as rc4hmac_window_bill does. A token that is not billed is opened all the
+ * same: the message of a duplicate stands plain in the region. A refused token
+ * never reaches the window, which is left as it came, and its status is
+ * RC4HMAC_STATUS_NONE. */
+uint32_t rc4hmac_receive_wrap(uint64_t window[4],
+                              const uint8_t key[16], uint32_t export_strength,
+                              uint32_t acceptor,
+                              uint8_t *buf, size_t buf_len,
+                              size_t start, size_t length,
+                              uint32_t *sequence, uint32_t *sealed,
+                              size_t *message_len, uint32_t *status);
+
+/* Reads a MIC token as rc4hmac_mic_read does, and bills its sequence number as
+ * rc4hmac_window_bill does. A refused token never reaches the window, which is
+ * left as it came, and its status is RC4HMAC_STATUS_NONE. */
+uint32_t rc4hmac_receive_mic(uint64_t window[4],
+                             const uint8_t key[16], uint32_t export_strength,
+                             uint32_t acceptor,
+                             const uint8_t *data, size_t data_len,
+                             const uint8_t *buf, size_t buf_len,
+                             size_t start, size_t length,
+                             uint32_t *sequence, uint32_t *status);
 
 #ifdef __cplusplus
 }

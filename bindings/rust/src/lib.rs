@@ -1,6 +1,7 @@
 //! Safe functions over `librc4hmac.a`: the keys, checksums, encrypted messages,
-//! MIC tokens and Wrap tokens of RC4-HMAC (RFC 4757), and MD4, MD5, HMAC-MD5 and
-//! RC4 under them, over octets in memory, on x86-64 Linux.
+//! MIC tokens and Wrap tokens of RC4-HMAC (RFC 4757), a receive window for the
+//! tokens of a session, and MD4, MD5, HMAC-MD5 and RC4 under them, over octets in
+//! memory, on x86-64 Linux.
 //!
 //! Every function takes lengths within [limits] and answers a [`Refusal`]
 //! outside them; a refusal changes nothing that was lent.
@@ -26,6 +27,29 @@
 //! let opened = wrap_open(&context, &mut buf, 0, written)?;
 //! assert_eq!((opened.sequence, opened.sealed), (1, true));
 //! assert_eq!(&buf[32..32 + opened.message_len], b"a record");
+//! # Ok::<(), rc4hmac::Refusal>(())
+//! ```
+//!
+//! The same with a [`Window`], which bills each sequence number once:
+//!
+//! ```
+//! use rc4hmac::{wrap_write, Context, Sender, Status, Strength, Window};
+//!
+//! let context = Context {
+//!     key: [7; 16],
+//!     strength: Strength::Full,
+//!     sender: Sender::Initiator,
+//! };
+//! let mut token = [&[0; 32], &b"a record"[..], &[0]].concat();
+//! wrap_write(&context, 1, b"a nonce!", true, &mut token, 0, 8)?;
+//!
+//! let mut window = Window::new(1);
+//! for status in [Status::InOrder, Status::Duplicate] {
+//!     let mut buf = token.clone();
+//!     let received = window.receive_wrap(&context, &mut buf, 0, 41)?;
+//!     assert_eq!(received.status, status);
+//! }
+//! assert_eq!(window.billed(), 1);
 //! # Ok::<(), rc4hmac::Refusal>(())
 //! ```
 //!
@@ -61,17 +85,21 @@ mod messages;
 mod primitives;
 mod refusal;
 mod sender;
+mod status;
 mod strength;
 mod tokens;
 mod usage;
+mod window;
 
 pub use messages::{checksum, checksum_test, decrypt, encrypt, password_key};
 pub use primitives::{hmac_md5, md4, md5, rc4};
 pub use refusal::Refusal;
 pub use sender::Sender;
+pub use status::Status;
 pub use strength::Strength;
 pub use tokens::{mic_read, mic_write, wrap_open, wrap_write, Context, Opened};
 pub use usage::Usage;
+pub use window::{ReceivedMic, ReceivedWrap, Window};
 
 /// The octets of an MD4, MD5 or HMAC-MD5 digest.
 pub const DIGEST_LEN: usize = 16;
@@ -99,3 +127,10 @@ pub const WRAP_MESSAGE_OFFSET: usize = 32;
 /// The octets of a Wrap token that are not its message: those before it and
 /// the pad.
 pub const WRAP_OVERHEAD: usize = WRAP_MESSAGE_OFFSET + 1;
+
+/// The words of a [`Window`].
+pub const WINDOW_WORDS: usize = 4;
+
+/// The distances below the next expected one that a [`Window`] keeps a mark
+/// for.
+pub const WINDOW_MARKS: usize = 64;

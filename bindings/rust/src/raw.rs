@@ -1,18 +1,25 @@
 //! The functions of the archive as C sees them, in `include/rc4hmac.h`.
 //!
 //! Each answers a refusal number, the lowest that applies, 0 when done. With a
-//! refusal every digest, key, checksum, length and number written is zero, and
-//! no octet of lent data is changed. `export_strength`, `acceptor` and `sealed`
-//! are 0 for no and anything else for yes; `acceptor` says who the sender is,
-//! for the readers the expected sender.
+//! refusal every digest, key, checksum, length, number and status written is
+//! zero, and no octet of lent data and no word of a window is changed.
+//! `export_strength`, `acceptor` and `sealed` are 0 for no and anything else for
+//! yes; `acceptor` says who the sender is, for the readers the expected sender.
+//!
+//! A status is 1 in order, 2 gap, 3 late, 4 duplicate, 5 old or 6 outside, and 0
+//! for a refused token, as [`Status::number`](crate::Status::number) has them.
+//! A window is four words: the first number, the next expected distance, the
+//! marks of the 64 distances below that, and the billed count. Any four words
+//! are taken, the first two modulo 2^32.
 //!
 //! # Safety
 //!
 //! For every function here: a pointer with a length beside it is followed by
 //! as many octets, or 16-bit units, as the length says, and may be null or
 //! dangling only where that length is 0; a pointer to an array is valid for all
-//! its octets, and one to a length or a number is valid for writing it; units,
-//! lengths and numbers are aligned; the areas lent to one call do not overlap.
+//! its octets or words, and one to a length or a number is valid for writing it;
+//! units, words, lengths and numbers are aligned; the areas lent to one call do
+//! not overlap.
 
 extern "C" {
     /// The MD4 digest of `data`.
@@ -141,5 +148,51 @@ extern "C" {
         sequence: *mut u32,
         sealed: *mut u32,
         message_len: *mut usize,
+    ) -> u32;
+
+    /// Makes a new window for a session whose first number is `first`.
+    pub fn rc4hmac_window_new(first: u32, window: *mut [u64; 4]) -> u32;
+
+    /// Bills `sequence`, or does not, by its status, which it writes.
+    pub fn rc4hmac_window_bill(window: *mut [u64; 4], sequence: u32, status: *mut u32) -> u32;
+
+    /// Writes how many of the 64 distances below the next expected one, or of
+    /// all below it if they are fewer, have not been billed.
+    pub fn rc4hmac_window_missing(window: *const [u64; 4], missing: *mut u32) -> u32;
+
+    /// Opens a Wrap token as [`rc4hmac_wrap_open`] does and bills its sequence
+    /// number as [`rc4hmac_window_bill`] does; a refused token never reaches
+    /// the window.
+    pub fn rc4hmac_receive_wrap(
+        window: *mut [u64; 4],
+        key: *const [u8; 16],
+        export_strength: u32,
+        acceptor: u32,
+        buf: *mut u8,
+        buf_len: usize,
+        start: usize,
+        length: usize,
+        sequence: *mut u32,
+        sealed: *mut u32,
+        message_len: *mut usize,
+        status: *mut u32,
+    ) -> u32;
+
+    /// Reads a MIC token as [`rc4hmac_mic_read`] does and bills its sequence
+    /// number as [`rc4hmac_window_bill`] does; a refused token never reaches
+    /// the window.
+    pub fn rc4hmac_receive_mic(
+        window: *mut [u64; 4],
+        key: *const [u8; 16],
+        export_strength: u32,
+        acceptor: u32,
+        data: *const u8,
+        data_len: usize,
+        buf: *const u8,
+        buf_len: usize,
+        start: usize,
+        length: usize,
+        sequence: *mut u32,
+        status: *mut u32,
     ) -> u32;
 }

@@ -2,7 +2,7 @@
 
 use std::collections::BTreeMap;
 
-use rc4hmac::{limits, Refusal, Usage};
+use rc4hmac::{limits, Refusal, Status, Usage};
 
 const HEADER: &str = include_str!("../../../include/rc4hmac.h");
 
@@ -33,6 +33,19 @@ fn refusals() -> Vec<(&'static str, usize)> {
     ]
 }
 
+fn statuses() -> Vec<(&'static str, usize)> {
+    let number = |status: Status| status.number() as usize;
+    vec![
+        ("STATUS_NONE", 0),
+        ("STATUS_IN_ORDER", number(Status::InOrder)),
+        ("STATUS_GAP", number(Status::Gap)),
+        ("STATUS_LATE", number(Status::Late)),
+        ("STATUS_DUPLICATE", number(Status::Duplicate)),
+        ("STATUS_OLD", number(Status::Old)),
+        ("STATUS_OUTSIDE", number(Status::Outside)),
+    ]
+}
+
 fn lengths() -> Vec<(&'static str, usize)> {
     vec![
         ("DIGEST_LEN", rc4hmac::DIGEST_LEN),
@@ -55,6 +68,8 @@ fn lengths() -> Vec<(&'static str, usize)> {
         ("WRAP_MESSAGE_OFFSET", rc4hmac::WRAP_MESSAGE_OFFSET),
         ("WRAP_MIN", limits::WRAP_MIN),
         ("WRAP_MAX", limits::WRAP_MAX),
+        ("WINDOW_WORDS", rc4hmac::WINDOW_WORDS),
+        ("WINDOW_MARKS", rc4hmac::WINDOW_MARKS),
     ]
 }
 
@@ -87,7 +102,7 @@ fn usages() -> Vec<(&'static str, usize)> {
 #[test]
 fn the_header_names_the_numbers_of_this_binding_and_no_others() {
     let mut defined = defined();
-    for (name, number) in [refusals(), lengths(), usages()].concat() {
+    for (name, number) in [refusals(), statuses(), lengths(), usages()].concat() {
         assert_eq!(defined.remove(name), Some(number), "{name}");
     }
     assert_eq!(defined, BTreeMap::new());

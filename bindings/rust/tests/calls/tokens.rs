@@ -6,7 +6,7 @@ use super::LEN_BEFORE;
 use crate::reference::{Outcome, Reading, TokenTerms, Wrap};
 
 /// What a number holds before a call.
-const NUMBER_BEFORE: u32 = 0xa5a5_a5a5;
+pub const NUMBER_BEFORE: u32 = 0xa5a5_a5a5;
 
 /// The arguments for yes and no.
 #[derive(Clone, Copy, Debug)]

@@ -49,6 +49,16 @@ impl Inputs {
         self.next()
     }
 
+    /// A word of a window.
+    pub fn word(&mut self) -> u64 {
+        u64::from(self.next()) << 32 | u64::from(self.next())
+    }
+
+    /// One of these.
+    pub fn pick<T: Copy>(&mut self, of: &[T]) -> T {
+        of[self.number(0, of.len() - 1)]
+    }
+
     /// The octets somewhere in a longer buffer, and where they start.
     pub fn around(&mut self, octets: &[u8]) -> (Vec<u8>, usize) {
         let (before, after) = (self.number(0, 40), self.number(0, 40));

@@ -1,11 +1,13 @@
 //! The second program: MD4, MD5, HMAC-MD5, RC4 and the keys, checksums,
 //! encrypted messages and tokens of RFC 4757 written from their published texts
-//! alone, for the library to be compared with, and the inputs for that.
+//! alone, and a clerk for receive windows, for the library to be compared with,
+//! and the inputs for that.
 
 // Each test file uses its own share of this module.
 #![allow(dead_code, unused_imports)]
 
 mod checksum;
+pub mod clerk;
 mod faults;
 mod hmac;
 mod inputs;
@@ -16,11 +18,14 @@ pub mod outcomes;
 mod padding;
 mod password;
 mod rc4;
+pub mod receive_outcomes;
 mod token;
 pub mod token_outcomes;
 mod usage;
+pub mod window;
 
 pub use checksum::checksum;
+pub use clerk::Clerk;
 pub use faults::{fault_sets, first};
 pub use hmac::hmac_md5;
 pub use inputs::{counting, Inputs, OVER_MESSAGE};
@@ -30,8 +35,10 @@ pub use message::{Terms, HEADER};
 pub use outcomes::{must_be_octets, Outcome};
 pub use password::password_key;
 pub use rc4::rc4;
+pub use receive_outcomes::Receipt;
 pub use token::{
     Opening, TokenTerms, Wrap, CLEAR_HEADER, FRONT, MIC, MIC_HEADER, PAD, SEALED_HEADER,
 };
 pub use token_outcomes::Reading;
 pub use usage::{message_type, salt, USAGES};
+pub use window::Words;

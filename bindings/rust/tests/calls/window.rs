@@ -1,0 +1,140 @@
+//! The window calls on slices, and with any numbers for yes and no.
+
+use rc4hmac::raw;
+
+use super::tokens::{Flags, NUMBER_BEFORE};
+use super::LEN_BEFORE;
+use crate::reference::{Reading, Receipt, TokenTerms, Words};
+
+/// What a window to be made holds before the call.
+const WORD_BEFORE: u64 = 0xa5a5_a5a5_a5a5_a5a5;
+
+/// Fails for another answer than 0, as the two below do.
+#[track_caller]
+pub fn window_new(first: u32) -> Words {
+    let mut words = [WORD_BEFORE; 4];
+    // SAFETY: the tests lend areas that do not overlap, here and below.
+    let number = unsafe { raw::rc4hmac_window_new(first, &mut words) };
+    assert_eq!(number, 0, "window_new");
+    words
+}
+
+/// The status.
+#[track_caller]
+pub fn window_bill(words: &mut Words, sequence: u32) -> u32 {
+    let mut status = NUMBER_BEFORE;
+    let number = unsafe { raw::rc4hmac_window_bill(words, sequence, &mut status) };
+    assert_eq!(number, 0, "window_bill");
+    status
+}
+
+#[track_caller]
+pub fn window_missing(words: &Words) -> u32 {
+    let mut missing = NUMBER_BEFORE;
+    let number = unsafe { raw::rc4hmac_window_missing(words, &mut missing) };
+    assert_eq!(number, 0, "window_missing");
+    missing
+}
+
+pub fn receive_wrap(
+    words: Words,
+    terms: &TokenTerms,
+    buf: &[u8],
+    start: usize,
+    length: usize,
+) -> Receipt {
+    let mut buf = buf.to_vec();
+    receive_wrap_in_place(words, Flags::of(terms), &terms.key, &mut buf, start, length)
+}
+
+pub fn receive_mic(
+    words: Words,
+    terms: &TokenTerms,
+    data: &[u8],
+    buf: &[u8],
+    start: usize,
+    length: usize,
+) -> Receipt {
+    let (flags, key) = (Flags::of(terms), &terms.key);
+    receive_mic_in_place(words, flags, key, data, buf, start, length)
+}
+
+pub fn receive_wrap_in_place(
+    mut words: Words,
+    flags: Flags,
+    key: &[u8; 16],
+    buf: &mut [u8],
+    start: usize,
+    length: usize,
+) -> Receipt {
+    let [mut sequence, mut sealed, mut status] = [NUMBER_BEFORE; 3];
+    let mut len = LEN_BEFORE;
+    let number = unsafe {
+        raw::rc4hmac_receive_wrap(
+            &mut words,
+            key,
+            flags.export_strength,
+            flags.acceptor,
+            buf.as_mut_ptr(),
+            buf.len(),
+            start,
+            length,
+            &mut sequence,
+            &mut sealed,
+            &mut len,
+            &mut status,
+        )
+    };
+    let reading = Reading {
+        number,
+        sequence,
+        sealed,
+        len,
+        buf: buf.to_vec(),
+    };
+    Receipt {
+        reading,
+        status,
+        words,
+    }
+}
+
+pub fn receive_mic_in_place(
+    mut words: Words,
+    flags: Flags,
+    key: &[u8; 16],
+    data: &[u8],
+    buf: &[u8],
+    start: usize,
+    length: usize,
+) -> Receipt {
+    let [mut sequence, mut status] = [NUMBER_BEFORE; 2];
+    let number = unsafe {
+        raw::rc4hmac_receive_mic(
+            &mut words,
+            key,
+            flags.export_strength,
+            flags.acceptor,
+            data.as_ptr(),
+            data.len(),
+            buf.as_ptr(),
+            buf.len(),
+            start,
+            length,
+            &mut sequence,
+            &mut status,
+        )
+    };
+    let reading = Reading {
+        number,
+        sequence,
+        sealed: 0,
+        len: 0,
+        buf: buf.to_vec(),
+    };
+    Receipt {
+        reading,
+        status,
+        words,
+    }
+}

@@ -23,6 +23,7 @@ mod token;
 pub mod token_outcomes;
 mod usage;
 pub mod window;
+mod window_inputs;
 
 pub use checksum::checksum;
 pub use clerk::Clerk;
@@ -42,3 +43,4 @@ pub use token::{
 pub use token_outcomes::Reading;
 pub use usage::{message_type, salt, USAGES};
 pub use window::Words;
+pub use window_inputs::HIGH;

@@ -1,0 +1,95 @@
+//! The safe window: its methods do as the calls do, and take areas that share
+//! octets.
+
+mod calls;
+mod reference;
+
+use calls::context;
+use rc4hmac::{Refusal, Status, Window};
+use reference::clerk::is_billed;
+use reference::{receive_outcomes, window, Inputs, TokenTerms, Wrap, MIC};
+
+#[test]
+fn the_safe_window_does_as_the_calls_do() {
+    let mut inputs = Inputs::new(445);
+    let [terms, ..] = TokenTerms::all(&mut inputs);
+    let context = context(&terms);
+    for first in [0, 1, 1 << 31, u32::MAX] {
+        assert_eq!(Window::new(first).words(), calls::window_new(first));
+    }
+    for turn in 0..2_000 {
+        let words = inputs.words();
+        let sequence = inputs.sequence_near(&words);
+        let (status, after) = window::bill(words, sequence);
+        let mut billed = Window::from_words(words);
+        assert_eq!(
+            (billed.words(), billed.missing()),
+            (words, window::missing(words))
+        );
+        assert_eq!(billed.bill(sequence).number(), status);
+        assert_eq!((billed.words(), billed.billed()), (after, after[3]));
+
+        let wrap = Wrap {
+            sequence,
+            ..Wrap::new(&mut inputs, turn % 2 == 0, 20)
+        };
+        let (mut buf, start) = inputs.around(&terms.wrap(&wrap));
+        let expected = receive_outcomes::receive_wrap(words, &terms, &buf, start, 53);
+        let mut wrapped = Window::from_words(words);
+        let received = wrapped.receive_wrap(&context, &mut buf, start, 53).unwrap();
+        let opened = received.opened;
+        let answer = (0, opened.sequence, opened.sealed.into(), opened.message_len);
+        assert_eq!(answer, expected.reading.answer());
+        assert_eq!(received.status.is_billed(), is_billed(status));
+        assert_eq!((&wrapped, received.status.number()), (&billed, status));
+        assert!(buf == expected.reading.buf);
+
+        let (buf, start) = inputs.around(&terms.mic(sequence, &wrap.message));
+        let mut signed = Window::from_words(words);
+        let received = signed
+            .receive_mic(&context, &wrap.message, &buf, start, 24)
+            .unwrap();
+        assert_eq!(
+            (received.sequence, received.status.number()),
+            (sequence, status)
+        );
+        assert_eq!(signed, billed);
+    }
+}
+
+/// Shared borrows may overlap: the key with the data, and both with the buffer.
+#[test]
+fn a_mic_is_received_from_areas_that_share_octets() {
+    let mut inputs = Inputs::new(446);
+    for terms in TokenTerms::all(&mut inputs) {
+        let (context, mut window) = (context(&terms), Window::new(7));
+        for (sequence, data) in [(7, &context.key[..]), (8, &context.key[3..9])] {
+            let token = terms.mic(sequence, data);
+            let received = window.receive_mic(&context, data, &token, 0, MIC).unwrap();
+            assert_eq!(received.sequence, sequence);
+            assert_eq!(received.status, Status::InOrder);
+        }
+
+        // The data, and then their token, in one buffer; and the key as one.
+        let data = inputs.octets(100);
+        let whole = [&data[..], &terms.mic(8, &data)].concat();
+        let received = window.receive_mic(&context, &whole[..100], &whole, 100, MIC);
+        assert_eq!(received.unwrap().status, Status::Duplicate);
+        let answer = window.receive_mic(&context, &context.key, &context.key, 0, MIC);
+        assert_eq!(answer, Err(Refusal::Region));
+        assert_eq!(window.words(), [7, 2, 0b11, 2]);
+    }
+}
+
+#[test]
+fn a_window_is_kept_as_words_and_taken_up_again() {
+    let mut inputs = Inputs::new(447);
+    let mut window = Window::new(u32::MAX - 20);
+    for _ in 0..500 {
+        let sequence = inputs.sequence_near(&window.words());
+        let mut taken_up = Window::from_words(window.words());
+        assert_eq!(taken_up, window);
+        assert_eq!(taken_up.bill(sequence), window.bill(sequence));
+        assert_eq!(taken_up, window);
+    }
+}

@@ -2,7 +2,7 @@
 //! empty ones.
 
 // Each test file uses its own share of this module.
-#![allow(dead_code)]
+#![allow(dead_code, unused_imports)]
 
 mod guarded;
 mod walled;

@@ -1,0 +1,212 @@
+//! What the window calls do to the areas lent to them and to the guard octets
+//! around them, at every alignment.
+
+mod areas;
+mod calls;
+mod reference;
+
+use areas::Guarded;
+use rc4hmac::raw;
+use reference::{
+    must_be_octets, receive_outcomes, window, Inputs, Receipt, TokenTerms, Words, Wrap, MIC,
+};
+
+fn octets_of(words: Words) -> Vec<u8> {
+    words.map(u64::to_ne_bytes).concat()
+}
+
+/// What a window call is lent, each area between guard octets.
+struct Lent {
+    window: Guarded,
+    key: Guarded,
+    data: Guarded,
+    buf: Guarded,
+    sequence: Guarded,
+    sealed: Guarded,
+    len: Guarded,
+    status: Guarded,
+}
+
+const NAMES: [&str; 8] = [
+    "window", "key", "data", "buffer", "sequence", "sealed", "length", "status",
+];
+
+impl Lent {
+    /// Only the words and the numbers that are written have to be aligned.
+    fn new(inputs: &mut Inputs, words: Words, buf: &[u8], data: &[u8], alignment: usize) -> Lent {
+        let mut lent = Lent {
+            window: Guarded::new(inputs, 32, alignment / 8 * 8),
+            key: Guarded::new(inputs, 16, (alignment * 3 + 1) % 16),
+            data: Guarded::new(inputs, data.len(), (alignment * 7 + 3) % 16),
+            buf: Guarded::new(inputs, buf.len(), alignment),
+            sequence: Guarded::new(inputs, 4, alignment / 4 * 4),
+            sealed: Guarded::new(inputs, 4, (alignment / 4 * 4 + 4) % 16),
+            len: Guarded::new(inputs, 8, (alignment / 8 * 8 + 8) % 16),
+            status: Guarded::new(inputs, 4, (alignment / 4 * 4 + 8) % 16),
+        };
+        lent.window.set(&octets_of(words));
+        lent.data.set(data);
+        lent.buf.set(buf);
+        lent
+    }
+
+    fn areas(&self) -> [Vec<u8>; 8] {
+        [
+            &self.window,
+            &self.key,
+            &self.data,
+            &self.buf,
+            &self.sequence,
+            &self.sealed,
+            &self.len,
+            &self.status,
+        ]
+        .map(|area| area.octets.clone())
+    }
+
+    /// All octets afterwards are those written here, or as they were.
+    #[track_caller]
+    fn check(&mut self, number: u32, after: [Vec<u8>; 8], call: impl FnOnce(&mut Lent) -> u32) {
+        assert_eq!(call(self), number);
+        for ((area, expected), name) in self.areas().iter().zip(&after).zip(NAMES) {
+            must_be_octets(area, expected, name);
+        }
+    }
+
+    /// The three window calls: `words` stand in the window.
+    fn window_calls(&mut self, words: Words, sequence: u32) {
+        let mut after = self.areas();
+        after[7] = self.status.with(&window::missing(words).to_ne_bytes());
+        // SAFETY: separate vectors with room for all, here and below.
+        self.check(0, after, |lent| unsafe {
+            raw::rc4hmac_window_missing(lent.window.ptr().cast(), lent.status.ptr().cast())
+        });
+
+        let (status, billed) = window::bill(words, sequence);
+        let mut after = self.areas();
+        after[0] = self.window.with(&octets_of(billed));
+        after[7] = self.status.with(&status.to_ne_bytes());
+        self.check(0, after, |lent| unsafe {
+            let window = lent.window.ptr().cast();
+            raw::rc4hmac_window_bill(window, sequence, lent.status.ptr().cast())
+        });
+
+        let mut after = self.areas();
+        after[0] = self.window.with(&octets_of([sequence.into(), 0, 0, 0]));
+        self.check(0, after, |lent| unsafe {
+            raw::rc4hmac_window_new(sequence, lent.window.ptr().cast())
+        });
+    }
+
+    /// The areas after a receipt, but for what only a Wrap token has.
+    fn received(&self, expected: &Receipt) -> [Vec<u8>; 8] {
+        let mut after = self.areas();
+        after[0] = self.window.with(&octets_of(expected.words));
+        after[3] = self.buf.with(&expected.reading.buf);
+        after[4] = self.sequence.with(&expected.reading.sequence.to_ne_bytes());
+        after[7] = self.status.with(&expected.status.to_ne_bytes());
+        after
+    }
+
+    fn receive_wrap(&mut self, words: Words, terms: &TokenTerms, start: usize, length: usize) {
+        self.key.set(&terms.key);
+        let buf = self.buf.lent();
+        let buf_len = buf.len();
+        let expected = receive_outcomes::receive_wrap(words, terms, buf, start, length);
+        let mut after = self.received(&expected);
+        after[5] = self.sealed.with(&expected.reading.sealed.to_ne_bytes());
+        after[6] = self.len.with(&expected.reading.len.to_ne_bytes());
+        self.check(expected.reading.number, after, |lent| unsafe {
+            raw::rc4hmac_receive_wrap(
+                lent.window.ptr().cast(),
+                lent.key.ptr().cast(),
+                terms.export.into(),
+                terms.acceptor.into(),
+                lent.buf.ptr(),
+                buf_len,
+                start,
+                length,
+                lent.sequence.ptr().cast(),
+                lent.sealed.ptr().cast(),
+                lent.len.ptr().cast(),
+                lent.status.ptr().cast(),
+            )
+        });
+    }
+
+    fn receive_mic(&mut self, words: Words, terms: &TokenTerms, start: usize, length: usize) {
+        self.key.set(&terms.key);
+        let (data, buf) = (self.data.lent(), self.buf.lent());
+        let (data_len, buf_len) = (data.len(), buf.len());
+        let expected = receive_outcomes::receive_mic(words, terms, data, buf, start, length);
+        let after = self.received(&expected);
+        self.check(expected.reading.number, after, |lent| unsafe {
+            raw::rc4hmac_receive_mic(
+                lent.window.ptr().cast(),
+                lent.key.ptr().cast(),
+                terms.export.into(),
+                terms.acceptor.into(),
+                lent.data.ptr(),
+                data_len,
+                lent.buf.ptr(),
+                buf_len,
+                start,
+                length,
+                lent.sequence.ptr().cast(),
+                lent.status.ptr().cast(),
+            )
+        });
+    }
+}
+
+#[test]
+fn windows_at_every_alignment_are_right_and_no_octet_beside_them_changes() {
+    let mut inputs = Inputs::new(460);
+    for alignment in 0..16 {
+        for _ in 0..200 {
+            let words = inputs.words();
+            let sequence = inputs.sequence_near(&words);
+            Lent::new(&mut inputs, words, &[], &[], alignment).window_calls(words, sequence);
+        }
+    }
+}
+
+/// Whole tokens, damaged ones, other senders', and regions past the buffer.
+#[test]
+fn tokens_received_change_no_octet_but_the_answers_the_window_and_the_region() {
+    let mut inputs = Inputs::new(461);
+    for (alignment, len) in (0..16).flat_map(|alignment| [0, 1, 34, 64].map(|len| (alignment, len)))
+    {
+        for mut terms in TokenTerms::all(&mut inputs) {
+            for fault in 0..5 {
+                let words = inputs.words();
+                let sequence = inputs.sequence_near(&words);
+                let wrap = Wrap {
+                    sequence,
+                    ..Wrap::new(&mut inputs, len % 2 == 0, len)
+                };
+                let (mut wrapped, at) = inputs.around(&terms.wrap(&wrap));
+                let (mut signed, mic_at) = inputs.around(&terms.mic(sequence, &wrap.message));
+                let place = inputs.number(12, 23);
+                wrapped[at + place] ^= u8::from(fault == 1);
+                signed[mic_at + place] ^= u8::from(fault == 1);
+                terms.acceptor ^= fault == 2;
+                let past = if fault == 3 { 1_000 } else { 0 };
+                let longer = if fault == 4 { 32_768 } else { 0 };
+                let data = &wrap.message;
+                Lent::new(&mut inputs, words, &wrapped, data, alignment).receive_wrap(
+                    words,
+                    &terms,
+                    at + past,
+                    len + 33 + longer,
+                );
+                Lent::new(&mut inputs, words, &signed, data, alignment).receive_mic(
+                    words,
+                    &terms,
+                    mic_at + past,
+                    MIC + longer,
+                );
+            }
+        }
+    }
+}

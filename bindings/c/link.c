@@ -557,6 +557,219 @@ static void check_token_round_trips(void)
                            "clear round trip, export strength, acceptor");
 }
 
+/* The four words of a window. */
+static int window_is(const uint64_t *window, uint64_t first, uint64_t next,
+                     uint64_t seen, uint64_t billed)
+{
+    return window[0] == first && window[1] == next && window[2] == seen
+        && window[3] == billed;
+}
+
+static void check_window_new(void)
+{
+    uint64_t window[RC4HMAC_WINDOW_WORDS];
+    uint32_t answer;
+
+    memset(window, 0x5a, sizeof window);
+    answer = rc4hmac_window_new(0xfffffffdu, window);
+    check("a new window",
+          answer == RC4HMAC_DONE && window_is(window, 0xfffffffdu, 0, 0, 0));
+}
+
+/* A number, its status, and the window afterwards. */
+struct billing {
+    const char *what;
+    uint32_t sequence;
+    uint32_t status;
+    uint64_t next;
+    uint64_t seen;
+    uint64_t billed;
+};
+
+static void check_window_bill(void)
+{
+    /* The first number is 2^32 - 3. */
+    static const struct billing billings[] = {
+        { "the first number is in order", 0xfffffffdu,
+          RC4HMAC_STATUS_IN_ORDER, 1, 1, 1 },
+        { "a number two further is a gap", 0xffffffffu,
+          RC4HMAC_STATUS_GAP, 3, 5, 2 },
+        { "the number between is late", 0xfffffffeu,
+          RC4HMAC_STATUS_LATE, 3, 7, 3 },
+        { "the same again is a duplicate", 0xfffffffeu,
+          RC4HMAC_STATUS_DUPLICATE, 3, 7, 3 },
+        { "0 follows 2^32 - 1 in order", 0,
+          RC4HMAC_STATUS_IN_ORDER, 4, 15, 4 },
+        { "a number before the first is outside", 0xfffffffcu,
+          RC4HMAC_STATUS_OUTSIDE, 4, 15, 4 },
+        { "64 further leaves the newest mark", 64,
+          RC4HMAC_STATUS_GAP, 68, 1, 5 },
+        { "65 below the next is old", 0,
+          RC4HMAC_STATUS_OLD, 68, 1, 5 },
+        { "64 below the next is late", 1,
+          RC4HMAC_STATUS_LATE, 68, (UINT64_C(1) << 63) | 1, 6 },
+        { "distance 2^31 - 1 is a gap", 0x7ffffffcu,
+          RC4HMAC_STATUS_GAP, UINT64_C(1) << 31, 1, 7 },
+        { "the next one is outside", 0x7ffffffdu,
+          RC4HMAC_STATUS_OUTSIDE, UINT64_C(1) << 31, 1, 7 }
+    };
+    uint64_t window[RC4HMAC_WINDOW_WORDS];
+    size_t i;
+
+    rc4hmac_window_new(0xfffffffdu, window);
+    for (i = 0; i < sizeof billings / sizeof billings[0]; i++) {
+        const struct billing *b = &billings[i];
+        uint32_t status = 99;
+        uint32_t answer = rc4hmac_window_bill(window, b->sequence, &status);
+
+        check(b->what,
+              answer == RC4HMAC_DONE && status == b->status
+                  && window_is(window, 0xfffffffdu, b->next, b->seen,
+                               b->billed));
+    }
+}
+
+/* Words above 2^32 and a count at its end, which no history makes. */
+static void check_window_words(void)
+{
+    const uint64_t high = UINT64_C(0xa5) << 32;
+    uint64_t window[RC4HMAC_WINDOW_WORDS] = { 0, 0, 1, UINT64_MAX };
+    uint32_t status = 99;
+    uint32_t answer;
+
+    window[0] = high | 5;
+    window[1] = high | 2;
+    answer = rc4hmac_window_bill(window, 6, &status);
+    check("a duplicate leaves all words as they came",
+          answer == RC4HMAC_DONE && status == RC4HMAC_STATUS_DUPLICATE
+              && window_is(window, high | 5, high | 2, 1, UINT64_MAX));
+
+    answer = rc4hmac_window_bill(window, 5, &status);
+    check("a late number writes all words",
+          answer == RC4HMAC_DONE && status == RC4HMAC_STATUS_LATE
+              && window_is(window, 5, 2, 3, 0));
+}
+
+static void check_window_missing(void)
+{
+    uint64_t window[RC4HMAC_WINDOW_WORDS];
+    uint32_t status = 99, missing = 99;
+    uint32_t answer;
+
+    rc4hmac_window_new(7, window);
+    answer = rc4hmac_window_missing(window, &missing);
+    check("a new window misses nothing",
+          answer == RC4HMAC_DONE && missing == 0);
+
+    rc4hmac_window_bill(window, 12, &status);
+    answer = rc4hmac_window_missing(window, &missing);
+    check("a gap of five misses five",
+          answer == RC4HMAC_DONE && missing == 5
+              && window_is(window, 7, 6, 1, 1));
+
+    rc4hmac_window_bill(window, 1000, &status);
+    answer = rc4hmac_window_missing(window, &missing);
+    check("a long gap misses all but the newest",
+          answer == RC4HMAC_DONE && missing == RC4HMAC_WINDOW_MARKS - 1u);
+}
+
+/* Receives the acceptor's sealed token from a copy with one octet changed by
+ * `change`, by a window that stays as it is unless the token is billed. */
+static void check_receive_wrap(const char *what, uint64_t *window,
+                               uint8_t change, uint32_t expected,
+                               uint32_t expected_status)
+{
+    uint8_t buf[sizeof sealed_token], before[sizeof sealed_token];
+    uint64_t came[RC4HMAC_WINDOW_WORDS];
+    uint32_t sequence = 99, sealed = 99, status = 99;
+    size_t message_len = 99;
+    uint32_t answer;
+    int holds;
+
+    memcpy(before, sealed_token, sizeof before);
+    before[34] ^= change;
+    memcpy(buf, before, sizeof buf);
+    memcpy(came, window, sizeof came);
+    answer = rc4hmac_receive_wrap(window, token_key, 1, 1, buf, sizeof buf,
+                                  0, sizeof buf, &sequence, &sealed,
+                                  &message_len, &status);
+    holds = answer == expected && status == expected_status;
+    if (expected == RC4HMAC_DONE) {
+        holds = holds && sequence == TOKEN_SEQUENCE && sealed == 1
+            && message_len == 4 && memcmp(buf, sealed_token, 24) == 0
+            && memcmp(buf + RC4HMAC_WRAP_MESSAGE_OFFSET, "kiln\001", 5) == 0;
+    } else {
+        holds = holds && sequence == 0 && sealed == 0 && message_len == 0
+            && memcmp(buf, before, sizeof buf) == 0;
+    }
+    if (expected_status != RC4HMAC_STATUS_GAP) {
+        holds = holds && memcmp(window, came, sizeof came) == 0;
+    }
+    check(what, holds);
+}
+
+static void check_receive_wraps(void)
+{
+    uint64_t window[RC4HMAC_WINDOW_WORDS];
+
+    rc4hmac_window_new(TOKEN_SEQUENCE - 3u, window);
+    check_receive_wrap("a damaged token leaves the window", window, 0x10,
+                       RC4HMAC_REFUSED_CHECKSUM, RC4HMAC_STATUS_NONE);
+    check_receive_wrap("a token is opened and billed", window, 0,
+                       RC4HMAC_DONE, RC4HMAC_STATUS_GAP);
+    check("the window has billed one number",
+          window_is(window, TOKEN_SEQUENCE - 3u, 4, 1, 1));
+    check_receive_wrap("the token again is opened and not billed", window, 0,
+                       RC4HMAC_DONE, RC4HMAC_STATUS_DUPLICATE);
+}
+
+/* Receives a MIC, which stays as it is, for the data. */
+static void check_receive_mic(const char *what, uint64_t *window,
+                              const uint8_t *token, const char *data,
+                              uint32_t expected, uint32_t expected_sequence,
+                              uint32_t expected_status, uint64_t expected_next,
+                              uint64_t expected_seen, uint64_t expected_billed)
+{
+    uint8_t buf[RC4HMAC_MIC_LEN];
+    uint32_t sequence = 99, status = 99;
+    uint32_t answer;
+
+    memcpy(buf, token, sizeof buf);
+    answer = rc4hmac_receive_mic(window, token_key, 0, 0,
+                                 (const uint8_t *)data, strlen(data),
+                                 buf, sizeof buf, 0, sizeof buf,
+                                 &sequence, &status);
+    check(what,
+          answer == expected && sequence == expected_sequence
+              && status == expected_status
+              && memcmp(buf, token, sizeof buf) == 0
+              && window_is(window, TOKEN_SEQUENCE, expected_next,
+                           expected_seen, expected_billed));
+}
+
+static void check_receive_mics(void)
+{
+    uint64_t window[RC4HMAC_WINDOW_WORDS];
+    uint8_t other[RC4HMAC_MIC_LEN];
+
+    rc4hmac_window_new(TOKEN_SEQUENCE, window);
+    check_receive_mic("a MIC of other data leaves the window", window, mic,
+                      "kilt", RC4HMAC_REFUSED_CHECKSUM, 0,
+                      RC4HMAC_STATUS_NONE, 0, 0, 0);
+    check_receive_mic("a MIC is read and billed", window, mic, "kiln",
+                      RC4HMAC_DONE, TOKEN_SEQUENCE,
+                      RC4HMAC_STATUS_IN_ORDER, 1, 1, 1);
+    check_receive_mic("the MIC again is read and not billed", window, mic,
+                      "kiln", RC4HMAC_DONE, TOKEN_SEQUENCE,
+                      RC4HMAC_STATUS_DUPLICATE, 1, 1, 1);
+
+    memcpy(other, mic, sizeof other);
+    other[11] ^= 1;
+    check_receive_mic("a MIC with another number is billed under it", window,
+                      other, "kiln", RC4HMAC_DONE, TOKEN_SEQUENCE ^ 1u,
+                      RC4HMAC_STATUS_IN_ORDER, 2, 3, 2);
+}
+
 int main(void)
 {
     check_md4();
@@ -576,6 +789,12 @@ int main(void)
     check_wrap_open();
     check_wrap_refusals();
     check_token_round_trips();
+    check_window_new();
+    check_window_bill();
+    check_window_words();
+    check_window_missing();
+    check_receive_wraps();
+    check_receive_mics();
 
     if (failed != 0) {
         printf("c: %u checks failed, %u passed\n", failed, passed);

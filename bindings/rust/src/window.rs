@@ -41,6 +41,7 @@ pub struct Window {
 
 impl Window {
     /// A new window for a session whose first sequence number is `first`.
+    #[inline]
     pub fn new(first: u32) -> Window {
         let mut words = [0; WINDOW_WORDS];
         // SAFETY: `words` is borrowed alone. The answer is always 0.
@@ -77,6 +78,7 @@ impl Window {
 
     /// Bills a sequence number, or does not, by its status. A number that is
     /// not billed leaves all words as they were.
+    #[inline]
     pub fn bill(&mut self, sequence: u32) -> Status {
         let mut status = 0;
         // SAFETY: both are borrowed alone. The answer is always 0.
@@ -100,6 +102,7 @@ impl Window {
     /// assert!(window.bill(1000).is_billed());
     /// assert_eq!(window.missing(), 63);
     /// ```
+    #[inline]
     pub fn missing(&self) -> u32 {
         let mut missing = 0;
         // SAFETY: `missing` is borrowed alone. The answer is always 0.

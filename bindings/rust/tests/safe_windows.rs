@@ -12,8 +12,6 @@ use reference::{receive_outcomes, window, Inputs, TokenTerms, Wrap, MIC};
 #[test]
 fn the_safe_window_does_as_the_calls_do() {
     let mut inputs = Inputs::new(445);
-    let [terms, ..] = TokenTerms::all(&mut inputs);
-    let context = context(&terms);
     for first in [0, 1, 1 << 31, u32::MAX] {
         assert_eq!(Window::new(first).words(), calls::window_new(first));
     }
@@ -29,9 +27,11 @@ fn the_safe_window_does_as_the_calls_do() {
         assert_eq!(billed.bill(sequence).number(), status);
         assert_eq!((billed.words(), billed.billed()), (after, after[3]));
 
+        let terms = TokenTerms::all(&mut inputs)[turn % 4];
+        let (context, sealed) = (context(&terms), turn % 8 < 4);
         let wrap = Wrap {
             sequence,
-            ..Wrap::new(&mut inputs, turn % 2 == 0, 20)
+            ..Wrap::new(&mut inputs, sealed, 20)
         };
         let (mut buf, start) = inputs.around(&terms.wrap(&wrap));
         let expected = receive_outcomes::receive_wrap(words, &terms, &buf, start, 53);
@@ -47,7 +47,7 @@ fn the_safe_window_does_as_the_calls_do() {
         let (buf, start) = inputs.around(&terms.mic(sequence, &wrap.message));
         let mut signed = Window::from_words(words);
         let received = signed
-            .receive_mic(&context, &wrap.message, &buf, start, 24)
+            .receive_mic(&context, &wrap.message, &buf, start, MIC)
             .unwrap();
         assert_eq!(
             (received.sequence, received.status.number()),

@@ -55,7 +55,7 @@ fn numbers_that_come_in_turn_are_in_order() {
 }
 
 /// How many numbers are left out, what then is missing and the marks.
-const GAPS: [(u32, u32, u64); 12] = [
+const GAPS: [(u32, u32, u64); 15] = [
     (1, 1, 0b101),
     (2, 2, 0b1001),
     (31, 31, 1 << 32 | 1),
@@ -66,7 +66,10 @@ const GAPS: [(u32, u32, u64); 12] = [
     (64, 63, 1),
     (65, 63, 1),
     (127, 63, 1),
+    (256, 63, 1),
     (1_000, 63, 1),
+    (65_536, 63, 1),
+    (1 << 24, 63, 1),
     (LAST - 1, 63, 1),
 ];
 

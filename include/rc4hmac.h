@@ -233,10 +233,10 @@ uint32_t rc4hmac_wrap_open(const uint8_t key[16], uint32_t export_strength,
  * the window.
  *
  * The status is written to `status`. The answer is a refusal number here too,
- * 0 for every status: a caller who looks for 0 alone drops no billed token, but
- * has to look at the status before billing.
+ * 0 with every status: a caller who tests for 0 drops no billed token, and the
+ * status says whether it was billed.
  *
- * A window is four words that the caller keeps, with nothing else behind them:
+ * A window is four words that the caller keeps; the library keeps nothing:
  *   0  the first number;
  *   1  the next expected distance;
  *   2  the marks of the distances below that: bit k is set if the distance that
@@ -244,7 +244,7 @@ uint32_t rc4hmac_wrap_open(const uint8_t key[16], uint32_t export_strength,
  *   3  how many numbers have been billed.
  * The calls take any four words: the first two modulo 2^32, and the count grows
  * modulo 2^64. A call that bills writes all four, and the first two are below
- * 2^32 then; any other leaves all four exactly as they came.
+ * 2^32 then; a call that does not bill leaves all four exactly as they came.
  *
  * What is billed once is the number that a token presents when it opens. The
  * number of a MIC token, and of a Wrap token that is not sealed, is under no
@@ -252,8 +252,8 @@ uint32_t rc4hmac_wrap_open(const uint8_t key[16], uint32_t export_strength,
  * billed under another number, and again under each further one. A sealed token
  * so changed is refused, but for one chance in 2^64. */
 
-/* A new window for a session whose first sequence number is `first`. Answers
- * 0. */
+/* Makes the window new, whatever it held, for a session whose first sequence
+ * number is `first`. Answers 0. */
 uint32_t rc4hmac_window_new(uint32_t first, uint64_t window[4]);
 
 /* Bills a sequence number, or does not, by its status. Answers 0. */

@@ -158,7 +158,8 @@ fn tokens_with_several_faults_get_the_lowest_number_and_no_status() {
                 sgn_cksum[3] ^= u8::from(checksum);
                 let mut token = writer.wrap_with(&wrap, last, &sgn_cksum);
                 token[5] ^= u8::from(header);
-                let (start, len) = (usize::from(region), if length { 32 } else { 40 });
+                let start = if region { 9 } else { 0 };
+                let len = if length { 32 } else { 40 };
                 let receipt = calls::receive_wrap(words, &terms, &token, start, len);
                 match first([1, 2, 4, 5, 6, 7], set) {
                     0 => assert_eq!((receipt.reading.number, receipt.status), (0, status)),

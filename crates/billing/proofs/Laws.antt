@@ -1,14 +1,17 @@
 -- What a crate above may cite: what holds of every session, of tokens received, and of one step from any window.
 use mathlib.Core.Bool.{false}
 use mathlib.Core.Path.{_≡_, refl, ap}
-use mathlib.Core.List.{List, [], _∷_}
-use Prim.Native.Nat.{ℕ}
+use mathlib.Core.List.{List, [], _∷_, reverse, reverseAux}
+use Prim.Native.Nat.{ℕ, zero, suc, _<_}
+use lib.ListN.{getD}
+use Rattle.tokens.specs.Token.{sequenceNumbers}
 use Rattle.tokens.specs.declared.answer.Sequence.{Sequence}
 use Rattle.tokens.specs.declared.answer.Sequence.the-variants as sequence
+use Rattle.billing.specs.Clerk.{clerkBilled}
 use Rattle.billing.specs.Receive.{windowAfterTokens, presented, NeverReached}
-use Rattle.billing.specs.Session.{windowAfter, SequenceNumbers, BillsOnce}
+use Rattle.billing.specs.Session.{windowAfter, billedBy, SequenceNumbers, BillsOnce}
 use Rattle.billing.specs.Status.{distance, isBilled}
-use Rattle.billing.specs.Window.{statusIn, after, step}
+use Rattle.billing.specs.Window.{newWindow, statusIn, after, step}
 use Rattle.billing.specs.declared.status.Status.{Status}
 use Rattle.billing.specs.declared.status.Status.the-variants.{InOrder, Gap, Late, Duplicate, Old, Outside}
 use Rattle.billing.specs.declared.window.Window.{Window}
@@ -26,11 +29,37 @@ bills-once first history numbers =
       missing-clerks = Counts.missing-clerks first history numbers;
     }
 
+-- the numbers that a window bills are those that the clerk bills
+pub billed-clerks : (first : ℕ) (history : List ℕ) → SequenceNumbers history → billedBy first history ≡ clerkBilled first history
+billed-clerks = Follows.billed-clerks
+
 pub never-reached : (first : ℕ) (tokens : List Sequence) → NeverReached first tokens
 unfolding windowAfterTokens windowAfter presented
 never-reached first [] = refl
 never-reached first (sequence.Number n ∷ tokens) = ap (λ (w : Window). step w n .window) (never-reached first tokens)
 never-reached first (sequence.Refused refusal ∷ tokens) = never-reached first tokens
+
+-- ---- A session number by number
+
+pub after-none : (first : ℕ) → windowAfter first [] ≡ newWindow first
+unfolding windowAfter
+after-none first = refl
+
+pub after-more : (first : ℕ) (history : List ℕ) (n : ℕ) → windowAfter first (n ∷ history) ≡ step (windowAfter first history) n .window
+unfolding windowAfter
+after-more first history n = refl
+
+-- numbers in the order in which they come, and the history that they make
+pub each-number : (ns : List ℕ) → ((i : ℕ) → getD ns i 0 < sequenceNumbers) → SequenceNumbers ns
+each-number [] fits = tt
+each-number (n ∷ ns) fits = (fits zero, each-number ns (λ i. fits (suc i)))
+
+history-numbers : (ns history : List ℕ) → SequenceNumbers ns → SequenceNumbers history → SequenceNumbers (reverseAux ns history)
+history-numbers [] history numbers before = before
+history-numbers (n ∷ ns) history numbers before = history-numbers ns (n ∷ history) (numbers .1) (numbers .0, before)
+
+pub reversed-numbers : (ns : List ℕ) → SequenceNumbers ns → SequenceNumbers (reverse ns)
+reversed-numbers ns numbers = history-numbers ns [] numbers tt
 
 -- ---- One step from any window
 

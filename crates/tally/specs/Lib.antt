@@ -1,0 +1,2 @@
+-- What the contract of `tally` cites.
+pub mod Tally

@@ -27,6 +27,24 @@ pub fn is_billed(status: u32) -> bool {
     [IN_ORDER, GAP, LATE].contains(&status)
 }
 
+/// The status of a number at this distance, where `next` is the next expected
+/// one and `billed` says whether the number was billed.
+pub fn status_at(distance: u64, next: u64, billed: impl FnOnce() -> bool) -> u32 {
+    if distance >= 1 << 31 {
+        OUTSIDE
+    } else if distance == next {
+        IN_ORDER
+    } else if distance > next {
+        GAP
+    } else if next - distance > 64 {
+        OLD
+    } else if billed() {
+        DUPLICATE
+    } else {
+        LATE
+    }
+}
+
 #[derive(Clone)]
 pub struct Clerk {
     first: u32,
@@ -68,20 +86,9 @@ impl Clerk {
     }
 
     pub fn status(&self, sequence: u32) -> u32 {
-        let (distance, next) = (self.distance(sequence), self.next());
-        if distance >= 1 << 31 {
-            OUTSIDE
-        } else if distance == next {
-            IN_ORDER
-        } else if distance > next {
-            GAP
-        } else if next - distance > 64 {
-            OLD
-        } else if self.billed.contains(&sequence) {
-            DUPLICATE
-        } else {
-            LATE
-        }
+        status_at(self.distance(sequence), self.next(), || {
+            self.billed.contains(&sequence)
+        })
     }
 
     /// The number's status, billed by it.

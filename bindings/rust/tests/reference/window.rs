@@ -1,7 +1,7 @@
 //! One step of a window on its four words, whatever they hold: for the windows
 //! that no history makes. The marks are taken out one by one.
 
-use super::clerk::{is_billed, DUPLICATE, GAP, IN_ORDER, LATE, OLD, OUTSIDE};
+use super::clerk::{is_billed, status_at};
 
 pub type Words = [u64; 4];
 
@@ -31,19 +31,7 @@ pub fn bill(words: Words, sequence: u32) -> (u32, Words) {
     let distance = (u64::from(sequence) + MODULUS - first) % MODULUS;
     let marks = marks(before);
 
-    let status = if distance >= MODULUS / 2 {
-        OUTSIDE
-    } else if distance == next {
-        IN_ORDER
-    } else if distance > next {
-        GAP
-    } else if next - distance > 64 {
-        OLD
-    } else if marks[(next - 1 - distance) as usize] {
-        DUPLICATE
-    } else {
-        LATE
-    };
+    let status = status_at(distance, next, || marks[(next - 1 - distance) as usize]);
     if !is_billed(status) {
         return (status, words);
     }

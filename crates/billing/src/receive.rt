@@ -102,7 +102,7 @@ pub fn receive_wrap(
     start: usize,
     len: usize,
 ) -> ReceivedWrap
-    ensures token { λ r. ⌜ r .token ≡ unwrappedAnswer (wrapOpening context (now (buf .entry)) start len) ⌝ }
+    ensures answer { λ r. ⌜ r .token ≡ unwrappedAnswer (wrapOpening context (now (buf .entry)) start len) ⌝ }
     ensures buffer { λ _. ⌜ now (buf .exit) ≡ bufferAfter plain (start + 24) (now (buf .entry)) (wrapOpening context (now (buf .entry)) start len) ⌝ }
     ensures exact { λ r. ⌜ OpensExactly context (now (buf .entry)) start len (unwrappedNumber (r .token)) (unwrappedSequence (r .token)) (unwrappedSealed (r .token)) (unwrappedLength (r .token)) (now (buf .exit)) ⌝ }
     ensures billing { λ r. ⌜ r .received ≡ Spec.received window (Spec.presentedBy (r .token)) ⌝ }
@@ -123,7 +123,7 @@ pub fn receive_mic(
     start: usize,
     len: usize,
 ) -> ReceivedMic
-    ensures token { λ r. ⌜ r .token ≡ sequenceAnswer (micReading context (now («data» .entry)) (now (buf .entry)) start len) ⌝ }
+    ensures answer { λ r. ⌜ r .token ≡ sequenceAnswer (micReading context (now («data» .entry)) (now (buf .entry)) start len) ⌝ }
     ensures exact { λ r. ⌜ ReadsExactly context (now («data» .entry)) (now (buf .entry)) start len (sequenceRefusal (r .token)) (sequenceNumber (r .token)) ⌝ }
     ensures billing { λ r. ⌜ r .received ≡ Spec.received window (r .token) ⌝ }
 {

@@ -1,2 +1,3 @@
--- The laws by which the functions of this crate are proved.
+-- The laws by which the functions of this crate are proved, and what holds of a session through the C interface.
 mod Out
+pub mod Session

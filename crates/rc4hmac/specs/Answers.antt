@@ -43,8 +43,11 @@ pub record UnwrappedOut (unwrapped : Unwrapped) (answer sequence sealed length :
 abbrev pub windowWords : Window → List ℕ
 windowWords w = w .first ∷ w .next ∷ w .seen ∷ w .billed ∷ []
 
--- what came of a number: the number of its status, 0 where there is none, and the window if it was billed; else the four numbers are as
--- they came
+-- the four numbers after a call: those of the window if a number was billed, and else as they came
+abbrev pub wordsAfter : Received → List ℕ → List ℕ
+wordsAfter received words = cond (isBilled (received .status)) (windowWords (received .window)) words
+
+-- what came of a number: the number of its status, 0 where there is none, and the window
 pub record ReceivedOut (received : Received) (words after : List ℕ) (status : ℕ) : Type 0 where
   pub status-is : status ≡ number (received .status)
-  pub window-is : after ≡ cond (isBilled (received .status)) (windowWords (received .window)) words
+  pub window-is : after ≡ wordsAfter received words

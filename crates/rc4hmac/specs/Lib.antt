@@ -2,3 +2,4 @@
 pub mod Primitives
 pub mod Arguments
 pub mod Answers
+pub mod Session

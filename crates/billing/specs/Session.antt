@@ -1,5 +1,5 @@
--- Sessions: sequence numbers handed in one after the other, from a new window on; and what holds of every one. Lists of numbers are
--- newest first.
+-- Sessions: sequence numbers handed in one after the other, from a new window on; and what holds of every one. To read it, it is enough
+-- that `step` is what `Window::bill` gives, and `missing` what `Window::missing` gives. Lists of numbers are newest first.
 use mathlib.Core.Bool.{cond, false}
 use mathlib.Core.Path.{_≡_}
 use mathlib.Core.List.{List, [], _∷_}

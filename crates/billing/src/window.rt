@@ -98,7 +98,8 @@ impl Window {
         }
     }
 
-    // Gives a sequence number its status, and bills it if it is in order, a gap or late.
+    // Gives a sequence number its status, and bills it if it is in order, a gap or late. What becomes of a window that no session leads to
+    // is left free by the rules; the definition decides, and a number that is not billed leaves any window as it was.
     pub fn bill(self, sequence: u32) -> Receipt
         ensures { λ r. ⌜ r ≡ Spec.step self sequence ⌝ }
     {
@@ -123,7 +124,8 @@ impl Window {
         self.filled(place).with(Status::Late)
     }
 
-    // How many of the last sixty-four distances below the next expected one, or of all if they are fewer, are not marked.
+    // How many of the last sixty-four distances below the next expected one, or of all if they are fewer, are not marked: not billed, in a
+    // window that a session leads to.
     pub fn missing(self) -> u32
         ensures { λ r. ⌜ r ≡ Spec.missing self ⌝ }
     {

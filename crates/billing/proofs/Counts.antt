@@ -15,7 +15,7 @@ use Rattle.billing.specs.Status.{outsideFrom, distance}
 use Rattle.billing.specs.Window.{isMarked, missing}
 use Rattle.billing.specs.declared.status.Status.{Status}
 use Rattle.billing.proofs.Cases.{Case, case-of, outside, in-order, gap, late, duplicate, old}
-use Rattle.billing.proofs.Follows.{Holds, billed-numbers, window-holds, billed-clerks}
+use Rattle.billing.proofs.Follows.{billed-numbers, window-holds, billed-clerks}
 use Rattle.billing.proofs.Marks.{ones-more}
 use Rattle.billing.proofs.Members.{member-first, member-rest, member-distance, not-member, next-more}
 

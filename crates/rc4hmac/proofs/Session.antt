@@ -2,11 +2,10 @@
 use mathlib.Core.Path.{_≡_, refl, sym, ap, ap₂, _∙_}
 use mathlib.Core.Bool.{Bool, true, false, cond}
 use mathlib.Core.List.{List, [], _∷_}
-use Prim.Native.Nat.{ℕ, _%_, _≤_, _<_}
+use Prim.Native.Nat.{ℕ, _≤_, _<_}
 use native.Mathlib.Nat.{mod-eq-of-lt}
 use native.Mathlib.Omega.{arith}
 use Rattle.billing.specs.Receive.{received, windowAfterTokens, presented}
-use Rattle.billing.specs.Session.{windowAfter}
 use Rattle.billing.specs.Status.{outsideFrom, isBilled}
 use Rattle.billing.specs.Window.{step}
 use Rattle.billing.specs.declared.window.Window.{Window}

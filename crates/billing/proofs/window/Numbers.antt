@@ -1,7 +1,6 @@
 -- What the window's code computes, over plain numbers.
-use mathlib.Core.Bool.{true, false}
-use mathlib.Core.Path.{_≡_, sym, ap, ap₂, _∙_}
-use Prim.Native.Nat.{ℕ, _+_, _-_, _*_, _/_, _%_, _^_, _≤_, _<_, min}
+use mathlib.Core.Path.{_≡_, sym, ap, _∙_}
+use Prim.Native.Nat.{ℕ, _+_, _-_, _*_, _%_, _^_, _≤_, _<_}
 use native.Mathlib.Nat.{mod-lt, one-mul, mod-eq-of-lt}
 use native.Mathlib.Omega.{arith}
 use lib.Bits.{bitAnd, and-mask}
@@ -9,7 +8,7 @@ use lib.Count.{ones, ones-le}
 use lib.Dec.{lit<}
 use lib.Pow.{pow-pos, shl-exact}
 use Rattle.tokens.specs.Token.{sequenceNumbers}
-use Rattle.billing.specs.Status.{distance, statusAt}
+use Rattle.billing.specs.Status.{distance}
 use Rattle.billing.specs.Window.{isMarked, placeOf, statusIn, after, receipt, stepAt, step, missing, inUse}
 use Rattle.billing.specs.declared.status.Status.{Status}
 use Rattle.billing.specs.declared.window.Window.{Window}

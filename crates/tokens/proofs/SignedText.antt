@@ -12,14 +12,14 @@ use Rattle.primitives.proofs.Laws.{hash-append, hash-digest}
 use Rattle.tokens.specs.Checksum.{signatureKey, checksum}
 use Rattle.tokens.specs.Token.{tokenChecksum}
 
-module _ (key : List ℕ) (type : ℕ) (header : List ℕ) {t : List ℕ} {first last : Hash} {sum : List ℕ}
-    (t-is : t ≡ littleEndian 4 type) (begun-is : first ≡ absorb (begun Md5) (t ++ header)) (sum-is : sum ≡ take 8 (hmac (signatureKey key) (finished last))) where
+module _ (key : List ℕ) (type : ℕ) (header : List ℕ) {t head : List ℕ} {first last : Hash} {sum : List ℕ}
+    (t-is : t ≡ littleEndian 4 type) (head-is : head ≡ header) (begun-is : first ≡ absorb (begun Md5) (t ++ head)) (sum-is : sum ≡ take 8 (hmac (signatureKey key) (finished last))) where
   pub signed : (text : List ℕ) → last ≡ absorb first text → sum ≡ tokenChecksum key type header text
   unfolding tokenChecksum checksum
   signed text last-is =
-      let absorbed : last ≡ absorb (begun Md5) ((t ++ header) ++ text) = last-is ∙ ap (λ (h : Hash). absorb h text) begun-is ∙ sym (hash-append (begun Md5) (t ++ header) text) in
-      let whole : (t ++ header) ++ text ≡ littleEndian 4 type ++ (header ++ text) = append-assoc t header text ∙ ap (λ (l : List ℕ). l ++ (header ++ text)) t-is in
-      sum-is ∙ ap (λ (d : List ℕ). take 8 (hmac (signatureKey key) d)) (ap finished absorbed ∙ hash-digest Md5 ((t ++ header) ++ text) ∙ ap md5 whole)
+      let absorbed : last ≡ absorb (begun Md5) ((t ++ head) ++ text) = last-is ∙ ap (λ (h : Hash). absorb h text) begun-is ∙ sym (hash-append (begun Md5) (t ++ head) text) in
+      let whole : (t ++ head) ++ text ≡ littleEndian 4 type ++ (header ++ text) = append-assoc t head text ∙ ap (λ (l : List ℕ). l ++ (head ++ text)) t-is ∙ ap (λ (l : List ℕ). littleEndian 4 type ++ (l ++ text)) head-is in
+      sum-is ∙ ap (λ (d : List ℕ). take 8 (hmac (signatureKey key) d)) (ap finished absorbed ∙ hash-digest Md5 ((t ++ head) ++ text) ∙ ap md5 whole)
 
   -- the same for a text in two parts
   pub signed-two : (a b : List ℕ) → last ≡ absorb (absorb first a) b → sum ≡ tokenChecksum key type header (a ++ b)

@@ -157,6 +157,11 @@ uint32_t rc4hmac_decrypt(const uint8_t key[16], uint32_t export_strength,
  * yes. `acceptor` says who the sender is, the acceptor of the context or its
  * initiator; a reader is told the sender that it expects.
  *
+ * Where the steps of RFC 4757 differ from what is really sent, tokens are as
+ * they are sent: the checksum of a Wrap token begins with 13 and not 15, the
+ * direction octets are RFC 1964's, 00 for the initiator and ff for the acceptor,
+ * and export strength sets nine octets to AB and not seven.
+ *
  * A refused call writes zeros to `written`, `sequence`, `sealed` and
  * `message_len`, and leaves every lent octet as it came.
  *

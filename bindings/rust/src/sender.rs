@@ -1,12 +1,13 @@
 //! The two senders of a context.
 
 /// Who wrote a token: the side that set up the context, or the side that took
-/// it up.
+/// it up. The direction octets are those of RFC 1964, as tokens are sent; the
+/// steps in RFC 4757 print them the other way round.
 #[derive(Clone, Copy, Debug, PartialEq, Eq, Hash)]
 pub enum Sender {
-    /// The initiator: direction octets ff ff ff ff.
+    /// The initiator: direction octets 00 00 00 00.
     Initiator,
-    /// The acceptor: direction octets 00 00 00 00.
+    /// The acceptor: direction octets ff ff ff ff.
     Acceptor,
 }
 

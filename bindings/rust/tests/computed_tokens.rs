@@ -2,35 +2,15 @@
 //! computed.
 
 mod calls;
+mod programs;
 mod reference;
 mod vectors;
 
-use reference::{md5, must_be_octets, token_outcomes, Outcome, Reading, TokenTerms, Wrap, FRONT};
+use programs::{Program, LIBRARY, REFERENCE};
+use reference::{md5, must_be_octets, TokenTerms, Wrap, FRONT};
 use vectors::{computed, octets, tokens};
 
 const SEQUENCE: u32 = 16_909_060;
-
-/// What is tested: the second program or the library.
-struct Program {
-    mic_write: fn(&TokenTerms, u32, &[u8], &[u8], usize) -> Outcome,
-    mic_read: fn(&TokenTerms, &[u8], &[u8], usize, usize) -> Reading,
-    wrap_write: fn(&TokenTerms, &Wrap, &[u8], usize, usize) -> Outcome,
-    wrap_open: fn(&TokenTerms, &[u8], usize, usize) -> Reading,
-}
-
-const REFERENCE: Program = Program {
-    mic_write: token_outcomes::mic_write,
-    mic_read: token_outcomes::mic_read,
-    wrap_write: token_outcomes::wrap_write,
-    wrap_open: token_outcomes::wrap_open,
-};
-
-const LIBRARY: Program = Program {
-    mic_write: calls::mic_write,
-    mic_read: calls::mic_read,
-    wrap_write: calls::wrap_write,
-    wrap_open: calls::wrap_open,
-};
 
 fn terms(export: bool, acceptor: bool) -> TokenTerms {
     TokenTerms {

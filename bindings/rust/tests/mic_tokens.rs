@@ -112,9 +112,9 @@ fn the_references_fields_are_those_written_out() {
     assert_eq!(MIC_HEADER, [0x01, 0x01, 0x11, 0x00, 255, 255, 255, 255]);
     let [initiator, acceptor, ..] = TokenTerms::all(&mut Inputs::new(206));
     let field = initiator.plain_send_seq(16_909_060);
-    assert_eq!(field, [1, 2, 3, 4, 255, 255, 255, 255]);
+    assert_eq!(field, [1, 2, 3, 4, 0, 0, 0, 0]);
     let field = acceptor.plain_send_seq(u32::MAX);
-    assert_eq!(field, [255, 255, 255, 255, 0, 0, 0, 0]);
+    assert_eq!(field, [255, 255, 255, 255, 255, 255, 255, 255]);
 }
 
 /// What stands where the token goes is not looked at.

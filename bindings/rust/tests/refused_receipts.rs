@@ -7,7 +7,7 @@ mod reference;
 use calls::context;
 use rc4hmac::{Refusal, Status, Window};
 use reference::clerk::{IN_ORDER, LATE};
-use reference::{fault_sets, first, Inputs, Receipt, TokenTerms, Wrap, MIC_HEADER, PAD};
+use reference::{fault_sets, first, Inputs, Receipt, TokenTerms, Wrap, PAD};
 
 /// The refusal number, the buffer, the start and the length.
 type Case = (u32, Vec<u8>, usize, usize);
@@ -166,7 +166,7 @@ fn tokens_with_several_faults_get_the_lowest_number_and_no_status() {
                     number => receipt.must_be(&Receipt::refused(number, words, &token), set),
                 }
 
-                let mut sgn_cksum = writer.sgn_cksum(&MIC_HEADER, b"data");
+                let mut sgn_cksum = writer.mic_cksum(b"data");
                 sgn_cksum[3] ^= u8::from(checksum);
                 let mut token = writer.mic_with(0, &sgn_cksum);
                 token[5] ^= u8::from(header);

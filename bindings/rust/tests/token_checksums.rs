@@ -4,7 +4,10 @@
 mod calls;
 mod reference;
 
-use reference::{hmac_md5, md5, Inputs, Reading, TokenTerms, Wrap, MIC_HEADER, PAD};
+use reference::{
+    hmac_md5, md5, Inputs, Reading, TokenTerms, Wrap, MIC_HEADER, MIC_MESSAGE_TYPE, PAD,
+    WRAP_MESSAGE_TYPE,
+};
 
 const LENS: [usize; 3] = [0, 5, 60];
 
@@ -43,7 +46,7 @@ fn every_bit_of_a_mics_checksum_is_compared() {
     for terms in TokenTerms::all(&mut inputs) {
         for len in LENS {
             let data = inputs.octets(len);
-            let right = terms.sgn_cksum(&MIC_HEADER, &data);
+            let right = terms.mic_cksum(&data);
             for wrong in wrong_ones(&mut inputs, right) {
                 check_mic(&terms, &data, &wrong);
             }
@@ -85,34 +88,49 @@ fn a_long_sealed_token_with_another_checksum_is_left_sealed() {
     }
 }
 
-/// A checksum of the right octets by another rule: the last eight of the HMAC,
-/// none of MD5, the message type 13, the header of the other kind.
+/// Checksums of the right octets by other rules: the last eight of the HMAC, the
+/// key itself for Ksign, none of MD5, the message type the wrong way round, the
+/// header of the other kind and no header.
+fn by_other_rules(
+    terms: &TokenTerms,
+    message_type: u32,
+    [header, other_header]: [[u8; 8]; 2],
+    signed: &[u8],
+) -> Vec<[u8; 8]> {
+    let ksign = hmac_md5(&terms.key, b"signaturekey\0");
+    let text = |message_type: [u8; 4], header: &[u8]| [&message_type, header, signed].concat();
+    let (low_first, high_first) = (message_type.to_le_bytes(), message_type.to_be_bytes());
+    let right = text(low_first, &header);
+    let whole = hmac_md5(&ksign, &md5(&right));
+    assert_eq!(terms.sgn_cksum(message_type, &header, signed), whole[..8]);
+
+    let others = [
+        hmac_md5(&terms.key, &md5(&right)),
+        hmac_md5(&ksign, &right),
+        hmac_md5(&ksign, &md5(&text(high_first, &header))),
+        hmac_md5(&ksign, &md5(&text(low_first, &other_header))),
+        hmac_md5(&ksign, &md5(&text(low_first, &[]))),
+    ];
+    let firsts = others.iter().map(|other| &other[..8]);
+    let lasts = others.iter().chain([&whole]).map(|other| &other[8..]);
+    (firsts.chain(lasts))
+        .map(|eight| eight.try_into().unwrap())
+        .collect()
+}
+
 #[test]
 fn checksums_by_other_rules_are_refused_with_6() {
     let mut inputs = Inputs::new(244);
     for terms in TokenTerms::all(&mut inputs) {
-        let ksign = hmac_md5(&terms.key, b"signaturekey\0");
         for sealed in [false, true] {
             let wrap = Wrap::new(&mut inputs, sealed, 20);
-            let header = wrap.header();
-            let signed =
-                |kind: u32, header: &[u8]| [&kind.to_le_bytes(), header, &wrap.plain(PAD)].concat();
-            let eight = |octets: &[u8]| octets.try_into().unwrap();
-            let whole = hmac_md5(&ksign, &md5(&signed(15, &header)));
-            assert_eq!(terms.wrap_cksum(&wrap, PAD), whole[..8]);
-            for wrong in [
-                whole,
-                hmac_md5(&terms.key, &md5(&signed(15, &header))),
-                hmac_md5(&ksign, &signed(15, &header)),
-                hmac_md5(&ksign, &md5(&signed(13, &header))),
-                hmac_md5(&ksign, &md5(&signed(15 << 24, &header))),
-                hmac_md5(&ksign, &md5(&signed(15, &MIC_HEADER))),
-                hmac_md5(&ksign, &md5(&signed(15, &[]))),
-            ] {
-                check_wrap(&terms, &wrap, PAD, &eight(&wrong[8..]));
-                if wrong != whole {
-                    check_wrap(&terms, &wrap, PAD, &eight(&wrong[..8]));
-                }
+            let (headers, plain) = ([wrap.header(), MIC_HEADER], wrap.plain(PAD));
+            for wrong in by_other_rules(&terms, WRAP_MESSAGE_TYPE, headers, &plain) {
+                check_wrap(&terms, &wrap, PAD, &wrong);
+            }
+            let (headers, data) = ([MIC_HEADER, wrap.header()], wrap.message);
+            for wrong in by_other_rules(&terms, MIC_MESSAGE_TYPE, headers, &data) {
+                check_mic(&terms, &data, &wrong);
             }
         }
     }

@@ -5,7 +5,8 @@ mod calls;
 mod reference;
 
 use reference::{
-    token_outcomes, Inputs, Reading, TokenTerms, Wrap, CLEAR_HEADER, MIC_HEADER, PAD, SEALED_HEADER,
+    token_outcomes, Inputs, Reading, TokenTerms, Wrap, CLEAR_HEADER, MIC_HEADER, MIC_MESSAGE_TYPE,
+    PAD, SEALED_HEADER, WRAP_MESSAGE_TYPE,
 };
 
 /// Headers that are near to those of a token, but are none.
@@ -28,13 +29,13 @@ const OTHERS: [[u8; 8]; 14] = [
 
 /// A token that is right in all but its header, which is signed with it.
 fn headed(terms: &TokenTerms, header: &[u8; 8], wrap: &Wrap) -> Vec<u8> {
-    let sgn_cksum = terms.sgn_cksum(header, &wrap.plain(PAD));
+    let sgn_cksum = terms.sgn_cksum(WRAP_MESSAGE_TYPE, header, &wrap.plain(PAD));
     let front = terms.first_24(header, wrap.sequence, &sgn_cksum);
     [&front, &terms.wrap(wrap)[24..]].concat()
 }
 
 fn mic_headed(terms: &TokenTerms, header: &[u8; 8], data: &[u8]) -> Vec<u8> {
-    terms.first_24(header, 7, &terms.sgn_cksum(header, data))
+    terms.first_24(header, 7, &terms.sgn_cksum(MIC_MESSAGE_TYPE, header, data))
 }
 
 #[track_caller]

@@ -8,7 +8,7 @@ use calls::context;
 use rc4hmac::Refusal;
 use reference::{
     must_be_octets, token_outcomes, Inputs, Outcome, Reading, TokenTerms, Wrap, FRONT, MIC,
-    OVER_MESSAGE,
+    OVER_MESSAGE, WRAP_MESSAGE_TYPE,
 };
 
 #[test]
@@ -158,7 +158,7 @@ fn a_token_of_32_octets_is_refused_with_1() {
     for terms in TokenTerms::all(&mut inputs) {
         for sealed in [false, true] {
             let wrap = Wrap::new(&mut inputs, sealed, 0);
-            let sgn_cksum = terms.sgn_cksum(&wrap.header(), &wrap.confounder);
+            let sgn_cksum = terms.sgn_cksum(WRAP_MESSAGE_TYPE, &wrap.header(), &wrap.confounder);
             let token = terms.wrap_with(&wrap, 1, &sgn_cksum);
             let opened = calls::wrap_open(&terms, &token, 0, 32);
             opened.must_be(&Reading::refused(1, &token), terms.name());

@@ -5,7 +5,7 @@
 mod calls;
 mod reference;
 
-use reference::{fault_sets, first, Inputs, Outcome, Reading, TokenTerms, Wrap, MIC_HEADER, PAD};
+use reference::{fault_sets, first, Inputs, Outcome, Reading, TokenTerms, Wrap, PAD};
 
 /// Starts outside a buffer of 40,000 octets; with the lengths here some sums
 /// come out small if they wrap.
@@ -79,7 +79,7 @@ impl Faults {
 
     fn mic(&self, reader: &TokenTerms, data: &[u8]) -> Vec<u8> {
         let writer = self.writer(reader);
-        let sgn_cksum = self.checksum(writer.sgn_cksum(&MIC_HEADER, data));
+        let sgn_cksum = self.checksum(writer.mic_cksum(data));
         let mut token = writer.mic_with(6, &sgn_cksum);
         token[7] ^= u8::from(self.header);
         token

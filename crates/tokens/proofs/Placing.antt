@@ -3,7 +3,7 @@ use mathlib.Core.Path.{_≡_, refl, sym, ap, _∙_}
 use mathlib.Core.List.{List, [], _++_, append-assoc, append-nil}
 use Prim.Native.Nat.{ℕ, _+_, _-_, _≤_}
 use native.Mathlib.Omega.{arith}
-use lib.ListN.{length, take, drop, replicate, length-append, length-take, length-drop, take-append-drop, drop-of-length-le, length-replicate, replicate-append-replicate}
+use lib.ListN.{length, take, drop, length-append, length-take, length-drop, take-append-drop, drop-of-length-le}
 use lib.Seq.{paste, take-at, drop-append-add, take-add, take-all, take-length, take-take, drop-append-le, drop-drop}
 use Rattle.tokens.specs.Limits.{region, placed}
 
@@ -38,14 +38,6 @@ three-placed a b c z m n ea eb ez =
     ∙ ap (placed n c) (next-placed a b (drop (length a) z) m ea)
     ∙ next-placed (a ++ b) c y n both
     ∙ rw (drop-of-length-le y none, append-nil) (append-assoc a b c)
-
--- the first octets of some that are all the same
-pub take-replicate : (n m x : ℕ) → n ≤ m → take n (replicate m x) ≡ replicate n x
-take-replicate n m x h =
-    let all : m ≡ n + (m - n) = omega arith in
-    ap (λ (k : ℕ). take n (replicate k x)) all
-    ∙ ap (take n) (sym (replicate-append-replicate n (m - n) x))
-    ∙ take-at (replicate n x) (replicate (m - n) x) n (length-replicate n x)
 
 -- the n octets of a buffer from `at`, lent as a part, fill an array of n
 module _ (n at : ℕ) (buf : List ℕ) (h : at + n ≤ length buf) where

@@ -37,12 +37,9 @@ plain p = p .confounder ++ p .message
 unfoldable pub k2 : List ℕ → Strength → List ℕ → List ℕ
 k2 key strength t = hmac key (salt strength t)
 
--- K1, of which export strength sets the nine octets 7 to 15
-abbrev pub filledOctets : ℕ
-filledOctets = 9
-
+-- K1, of which export strength sets its octets
 unfoldable pub k1 : List ℕ → Strength → List ℕ → List ℕ
-k1 key strength t = exportFill filledOctets strength (k2 key strength t)
+k1 key strength t = exportFill strength (k2 key strength t)
 
 -- K3 = HMAC(K1, Checksum)
 unfoldable pub k3 : List ℕ → Strength → List ℕ → List ℕ → List ℕ

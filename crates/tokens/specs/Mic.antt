@@ -17,7 +17,7 @@ use Rattle.tokens.specs.declared.context.Context.{Context}
 unfoldable pub header : List ℕ
 header = 0x01 ∷ 0x01 ∷ 0x11 ∷ 0x00 ∷ 0xff ∷ 0xff ∷ 0xff ∷ 0xff ∷ []
 
--- the message type in the checksum: "Key derivation salt = 15"
+-- the message type in the checksum: section 3, "data signed in GSS MIC (T=15)", and the steps, "Key derivation salt = 15"
 abbrev pub messageType : ℕ
 messageType = 15
 

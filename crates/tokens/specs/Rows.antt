@@ -10,9 +10,7 @@ use Rattle.primitives.specs.Hash.{padding, blocks, afterBlocks, output, digest}
 use Rattle.tokens.specs.Checksum.{signaturekey}
 use Rattle.tokens.specs.Key.{unicode, stringToKey}
 use Rattle.tokens.specs.Limits.{placed}
-use Rattle.tokens.specs.Message as Message
 use Rattle.tokens.specs.Strength.{salt, exportFill}
-use Rattle.tokens.specs.Token as Token
 use Rattle.tokens.specs.Token.{sequenceOctets, direction, sequenceField}
 use Rattle.tokens.specs.Usage.{messageType, typeOctets}
 use Rattle.tokens.specs.Wrap.{wrapLength}
@@ -41,9 +39,9 @@ blocksOf n = blocks (replicate n 0)
 unfoldable pub rows : List Row
 rows =
     -- A: plain SND_SEQ, 16,909,060, initiator
-    row (sequenceField Initiator 16909060) (0x01 ∷ 0x02 ∷ 0x03 ∷ 0x04 ∷ 0xff ∷ 0xff ∷ 0xff ∷ 0xff ∷ [])
+    row (sequenceField Initiator 16909060) (0x01 ∷ 0x02 ∷ 0x03 ∷ 0x04 ∷ 0x00 ∷ 0x00 ∷ 0x00 ∷ 0x00 ∷ [])
     -- B: plain SND_SEQ, 4,294,967,295, acceptor
-    ∷ row (sequenceField Acceptor 4294967295) (0xff ∷ 0xff ∷ 0xff ∷ 0xff ∷ 0x00 ∷ 0x00 ∷ 0x00 ∷ 0x00 ∷ [])
+    ∷ row (sequenceField Acceptor 4294967295) (0xff ∷ 0xff ∷ 0xff ∷ 0xff ∷ 0xff ∷ 0xff ∷ 0xff ∷ 0xff ∷ [])
     -- C: full salt of usage 3
     ∷ row (salt Full (typeOctets 3)) (0x08 ∷ 0x00 ∷ 0x00 ∷ 0x00 ∷ [])
     -- D: full salt of usage 15
@@ -53,9 +51,9 @@ rows =
     -- F: "signaturekey"
     ∷ row signaturekey (0x73 ∷ 0x69 ∷ 0x67 ∷ 0x6e ∷ 0x61 ∷ 0x74 ∷ 0x75 ∷ 0x72 ∷ 0x65 ∷ 0x6b ∷ 0x65 ∷ 0x79 ∷ 0x00 ∷ [])
     -- G: octets 00..0f after the AB fill of an encrypted message
-    ∷ row (exportFill Message.filledOctets Export counted) (0x00 ∷ 0x01 ∷ 0x02 ∷ 0x03 ∷ 0x04 ∷ 0x05 ∷ 0x06 ∷ 0xab ∷ 0xab ∷ 0xab ∷ 0xab ∷ 0xab ∷ 0xab ∷ 0xab ∷ 0xab ∷ 0xab ∷ [])
-    -- H: the same after the fill of a token
-    ∷ row (exportFill Token.filledOctets Export counted) (0x00 ∷ 0x01 ∷ 0x02 ∷ 0x03 ∷ 0x04 ∷ 0x05 ∷ 0x06 ∷ 0xab ∷ 0xab ∷ 0xab ∷ 0xab ∷ 0xab ∷ 0xab ∷ 0xab ∷ 0x0e ∷ 0x0f ∷ [])
+    ∷ row (exportFill Export counted) (0x00 ∷ 0x01 ∷ 0x02 ∷ 0x03 ∷ 0x04 ∷ 0x05 ∷ 0x06 ∷ 0xab ∷ 0xab ∷ 0xab ∷ 0xab ∷ 0xab ∷ 0xab ∷ 0xab ∷ 0xab ∷ 0xab ∷ [])
+    -- H: the same after the fill of a token, which is the same fill
+    ∷ row (exportFill Export counted) (0x00 ∷ 0x01 ∷ 0x02 ∷ 0x03 ∷ 0x04 ∷ 0x05 ∷ 0x06 ∷ 0xab ∷ 0xab ∷ 0xab ∷ 0xab ∷ 0xab ∷ 0xab ∷ 0xab ∷ 0xab ∷ 0xab ∷ [])
     -- I: blocks padded for lengths 0, 55, 56, 64
     ∷ row (blocksOf 0 ∷ blocksOf 55 ∷ blocksOf 56 ∷ blocksOf 64 ∷ []) (1 ∷ 1 ∷ 2 ∷ 2 ∷ [])
     -- J: Wrap lengths for messages 0 and 32,768

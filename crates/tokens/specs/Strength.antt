@@ -20,7 +20,7 @@ salt Export t = fortybits ++ t
 unfoldable pub saltAnswer : Strength → List ℕ → Salt
 saltAnswer strength t = record { octets = salt strength t ++ replicate (14 - length (salt strength t)) 0; length = length (salt strength t) }
 
--- memset(key + 7, 0xAB, n), for export alone
-unfoldable pub exportFill : ℕ → Strength → List ℕ → List ℕ
-exportFill n Full key = key
-exportFill n Export key = placed 7 (replicate n 0xab) key
+-- memset(key + 7, 0xAB, 9), for export alone: of an encrypted message's K1, and of a token's Kseq and Kcrypt
+unfoldable pub exportFill : Strength → List ℕ → List ℕ
+exportFill Full key = key
+exportFill Export key = placed 7 (replicate 9 0xab) key

@@ -28,10 +28,11 @@ sequenceNumbers = 4294967296
 unfoldable pub sequenceOctets : ℕ → List ℕ
 sequenceOctets n = n / 16777216 % 256 ∷ n / 65536 % 256 ∷ n / 256 % 256 ∷ n % 256 ∷ []
 
--- the direction octets: memset(SND_SEQ + 4, 0xff, 4) if the sender is the initiator, memset(SND_SEQ + 4, 0, 4) if the acceptor
+-- the direction octets of RFC 1964, section 1.2.1.2: 00 if the sender is the initiator, ff if the acceptor. The steps print them the
+-- other way round; docs/RULES.md has both.
 unfoldable pub direction : Sender → List ℕ
-direction Initiator = replicate 4 0xff
-direction Acceptor = replicate 4 0x00
+direction Initiator = replicate 4 0x00
+direction Acceptor = replicate 4 0xff
 
 -- SND_SEQ before it is encrypted
 unfoldable pub sequenceField : Sender → ℕ → List ℕ
@@ -45,13 +46,10 @@ tokenChecksum key type header text = take 8 (checksum key (littleEndian 4 type) 
 
 -- ---- Kseq and Kcrypt
 
--- export strength sets the seven octets 7 to 13: memset(Kseq + 7, 0xab, 7)
-abbrev pub filledOctets : ℕ
-filledOctets = 7
-
--- what both begin with: HMAC(key, salt for T = 0), of which export strength sets its octets
+-- what both begin with: HMAC(key, salt for T = 0), of which export strength sets its octets as it does K1's. The steps print seven
+-- octets here, where section 5 has nine; docs/RULES.md has both.
 unfoldable pub saltedKey : Strength → List ℕ → List ℕ
-saltedKey strength key = exportFill filledOctets strength (hmac key (salt strength (littleEndian 4 0)))
+saltedKey strength key = exportFill strength (hmac key (salt strength (littleEndian 4 0)))
 
 -- Kseq = HMAC(Kseq, SGN_CKSUM)
 unfoldable pub sequenceKey : Context → List ℕ → List ℕ

@@ -46,9 +46,9 @@ pad = 0x01
 unfoldable pub plain : Parts → List ℕ
 plain p = p .confounder ++ (p .message ++ pad ∷ [])
 
--- the message type in the checksum: "Key derivation salt = 15"
+-- the message type in the checksum: section 3, "data encrypted with GSS Wrap (T=13)". The steps print 15; docs/RULES.md has both.
 abbrev pub messageType : ℕ
-messageType = 15
+messageType = 13
 
 -- SGN_CKSUM, over the header and the plain text
 unfoldable pub wrapChecksum : Context → Bool → List ℕ → List ℕ

@@ -24,9 +24,6 @@ pub const OVERHEAD: usize = 24;
 // Where the confounder stands.
 const CONFOUNDER_AT: usize = 16;
 
-// How many octets of K1 export strength sets.
-const FILLED_OCTETS: usize = 9;
-
 // K1, and K2, which is K1 before export strength sets its octets.
 struct Keys {
     k1: [u8; 16],
@@ -53,7 +50,7 @@ fn derive(key: [u8; 16], strength: Strength, usage: Usage) -> Keys
     let octets = salt.octets;
     let n = salt.length;
     let k2 = Hmac::of(key, &octets[..n]);
-    let k1 = export::fill(FILLED_OCTETS, strength, k2);
+    let k1 = export::fill(strength, k2);
     Keys { k1: k1, k2: k2 }
 }
 

@@ -28,13 +28,10 @@ const SEQUENCE_AT: usize = 8;
 
 const CHECKSUM_AT: usize = 16;
 
-// The direction octets of SND_SEQ.
-const INITIATOR: [u8; 4] = [0xff, 0xff, 0xff, 0xff];
+// The direction octets of SND_SEQ, as in RFC 1964.
+const INITIATOR: [u8; 4] = [0x00, 0x00, 0x00, 0x00];
 
-const ACCEPTOR: [u8; 4] = [0x00, 0x00, 0x00, 0x00];
-
-// How many octets of a key export strength sets.
-const FILLED_OCTETS: usize = 7;
+const ACCEPTOR: [u8; 4] = [0xff, 0xff, 0xff, 0xff];
 
 // The direction octets of a sender.
 fn direction(sender: Sender) -> [u8; 4]
@@ -111,7 +108,7 @@ fn salted_key(strength: Strength, key: [u8; 16]) -> [u8; 16]
     let salt = Salt::new(strength, [0u8; 4]);
     let octets = salt.octets;
     let n = salt.length;
-    export::fill(FILLED_OCTETS, strength, Hmac::of(key, &octets[..n]))
+    export::fill(strength, Hmac::of(key, &octets[..n]))
 }
 
 // Kseq.

@@ -34,7 +34,7 @@ const SEALED: [u8; 8] = [0x02, 0x01, 0x11, 0x00, 0x10, 0x00, 0xff, 0xff];
 const CLEAR: [u8; 8] = [0x02, 0x01, 0x11, 0x00, 0xff, 0xff, 0xff, 0xff];
 
 // The message type in the checksum, the lowest octet first.
-const TYPE: [u8; 4] = [15, 0, 0, 0];
+const TYPE: [u8; 4] = [13, 0, 0, 0];
 
 // The pad.
 const PAD: u8 = 0x01;

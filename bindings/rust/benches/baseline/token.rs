@@ -1,13 +1,13 @@
 //! Sealed Wrap tokens of full strength from the initiator in Rust: RFC 4757,
-//! section 7. MD5 is the one with the 64 steps written out and takes the parts
-//! of a token where they stand; RC4 is the plain loop, or the one that reads
-//! ahead.
+//! section 7, with the 13 and the direction octets that are sent. MD5 is the one
+//! with the 64 steps written out and takes the parts of a token where they stand;
+//! RC4 is the plain loop, or the one that reads ahead.
 
 use super::md5::Md5;
 use super::{hmac_md5, rc4, rc4_reading_ahead};
 
 const HEADER: [u8; 8] = [0x02, 0x01, 0x11, 0x00, 0x10, 0x00, 0xff, 0xff];
-const DIRECTION: [u8; 4] = [0xff; 4];
+const DIRECTION: [u8; 4] = [0x00; 4];
 const PAD: u8 = 0x01;
 
 /// Opens a whole token in place: its sequence number and the length of its
@@ -82,12 +82,12 @@ fn write(
     rc4(&kseq, &mut front[8..16]);
 }
 
-/// Of 15, the header and the plain body, without a copy of the body.
+/// Of 13, the header and the plain body, without a copy of the body.
 fn sgn_cksum(key: &[u8; 16], body: &[u8]) -> [u8; 16] {
     let (mut ksign, mut digest, mut whole) = ([0; 16], [0; 16], [0; 16]);
     hmac_md5(key, b"signaturekey\0", &mut ksign);
     let mut md5 = Md5::new();
-    md5.update(&[15, 0, 0, 0]);
+    md5.update(&[13, 0, 0, 0]);
     md5.update(&HEADER);
     md5.update(body);
     md5.finish(&mut digest);

@@ -7,6 +7,12 @@ use super::{hmac_md5, rc4, Inputs};
 const CHECKSUM: usize = 16;
 pub const HEADER: usize = 24;
 
+/// The key with `memset (K1+7, 0xAB, 9)`: 56 bits of it stay.
+pub fn exportable(mut key: [u8; 16]) -> [u8; 16] {
+    key[7..7 + 9].fill(0xab);
+    key
+}
+
 /// Whose message it is, apart from its confounder and its data.
 #[derive(Clone, Copy, PartialEq)]
 pub struct Terms {
@@ -37,10 +43,7 @@ impl Terms {
     /// K1 and K2.
     fn keys(&self) -> ([u8; 16], [u8; 16]) {
         let k2 = hmac_md5(&self.key, &salt(self.export, self.usage));
-        let mut k1 = k2;
-        if self.export {
-            k1[7..].fill(0xab);
-        }
+        let k1 = if self.export { exportable(k2) } else { k2 };
         (k1, k2)
     }
 

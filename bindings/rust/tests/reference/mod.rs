@@ -38,7 +38,8 @@ pub use password::password_key;
 pub use rc4::rc4;
 pub use receive_outcomes::Receipt;
 pub use token::{
-    Opening, TokenTerms, Wrap, CLEAR_HEADER, FRONT, MIC, MIC_HEADER, PAD, SEALED_HEADER,
+    Opening, TokenTerms, Wrap, CLEAR_HEADER, FRONT, MIC, MIC_HEADER, MIC_MESSAGE_TYPE, PAD,
+    SEALED_HEADER, WRAP_MESSAGE_TYPE,
 };
 pub use token_outcomes::Reading;
 pub use usage::{message_type, salt, USAGES};

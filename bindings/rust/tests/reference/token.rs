@@ -1,5 +1,14 @@
-//! MIC and Wrap tokens, written and read, from RFC 4757, section 7.
+//! MIC and Wrap tokens, written and read, from RFC 4757, section 7, but as they
+//! are sent where its steps print something else:
+//!
+//! - SGN_CKSUM of a Wrap token begins with the 13 of the list in section 3; the
+//!   steps have 15 for both kinds;
+//! - the direction octets are those of RFC 1964; the steps have them the other
+//!   way round;
+//! - for export nine octets of Kseq and of Kcrypt are set, as section 5 sets
+//!   them in K1; the steps have seven.
 
+use super::message::exportable;
 use super::{hmac_md5, md5, rc4, Inputs};
 
 /// The octets of a MIC token, and of a Wrap token before its message.
@@ -10,6 +19,10 @@ pub const FRONT: usize = 32;
 pub const MIC_HEADER: [u8; 8] = [0x01, 0x01, 0x11, 0x00, 0xff, 0xff, 0xff, 0xff];
 pub const SEALED_HEADER: [u8; 8] = [0x02, 0x01, 0x11, 0x00, 0x10, 0x00, 0xff, 0xff];
 pub const CLEAR_HEADER: [u8; 8] = [0x02, 0x01, 0x11, 0x00, 0xff, 0xff, 0xff, 0xff];
+
+/// What SGN_CKSUM begins with: T of GSS MIC and of GSS Wrap in section 3.
+pub const MIC_MESSAGE_TYPE: u32 = 15;
+pub const WRAP_MESSAGE_TYPE: u32 = 13;
 
 /// The one octet of padding says that it is one.
 pub const PAD: u8 = 0x01;
@@ -90,22 +103,20 @@ impl TokenTerms {
     /// SND_SEQ before encryption: the number's octets, the highest first, and
     /// the direction's.
     pub fn plain_send_seq(&self, sequence: u32) -> [u8; 8] {
-        let direction = if self.acceptor { 0x00 } else { 0xff };
+        let direction = if self.acceptor { 0xff } else { 0x00 };
         std::array::from_fn(|i| match i {
             0..4 => (sequence >> (24 - 8 * i)) as u8,
             _ => direction,
         })
     }
 
-    /// What Kseq and Kcrypt share: the key salted with T = 0, for export with
-    /// `memset(K+7, 0xab, 7)`.
+    /// What Kseq and Kcrypt share: the key salted with T = 0.
     fn salted(&self, key: &[u8; 16]) -> [u8; 16] {
-        if !self.export {
-            return hmac_md5(key, &[0, 0, 0, 0]);
+        if self.export {
+            exportable(hmac_md5(key, b"fortybits\0\0\0\0\0"))
+        } else {
+            hmac_md5(key, &[0, 0, 0, 0])
         }
-        let mut salted = hmac_md5(key, b"fortybits\0\0\0\0\0");
-        salted[7..7 + 7].fill(0xab);
-        salted
     }
 
     fn kseq(&self, sgn_cksum: &[u8]) -> [u8; 16] {
@@ -119,10 +130,12 @@ impl TokenTerms {
         hmac_md5(&self.salted(&klocal), number)
     }
 
-    /// SGN_CKSUM of a header and what follows it under the checksum.
-    pub fn sgn_cksum(&self, header: &[u8; 8], signed: &[u8]) -> [u8; 8] {
+    /// SGN_CKSUM of a message type, a header and what follows it under the
+    /// checksum.
+    pub fn sgn_cksum(&self, message_type: u32, header: &[u8; 8], signed: &[u8]) -> [u8; 8] {
         let ksign = hmac_md5(&self.key, b"signaturekey\0");
-        let digest = md5(&[&[15, 0, 0, 0], &header[..], signed].concat());
+        let message_type: [u8; 4] = std::array::from_fn(|i| (message_type >> (8 * i)) as u8);
+        let digest = md5(&[&message_type, &header[..], signed].concat());
         let whole = hmac_md5(&ksign, &digest);
         std::array::from_fn(|i| whole[i])
     }
@@ -134,7 +147,12 @@ impl TokenTerms {
     }
 
     pub fn mic(&self, sequence: u32, data: &[u8]) -> Vec<u8> {
-        self.mic_with(sequence, &self.sgn_cksum(&MIC_HEADER, data))
+        self.mic_with(sequence, &self.mic_cksum(data))
+    }
+
+    /// SGN_CKSUM of the MIC token of `data`.
+    pub fn mic_cksum(&self, data: &[u8]) -> [u8; 8] {
+        self.sgn_cksum(MIC_MESSAGE_TYPE, &MIC_HEADER, data)
     }
 
     /// The MIC token with a given SGN_CKSUM.
@@ -153,7 +171,7 @@ impl TokenTerms {
 
     /// SGN_CKSUM of the Wrap token with `last` in the pad's place.
     pub fn wrap_cksum(&self, wrap: &Wrap, last: u8) -> [u8; 8] {
-        self.sgn_cksum(&wrap.header(), &wrap.plain(last))
+        self.sgn_cksum(WRAP_MESSAGE_TYPE, &wrap.header(), &wrap.plain(last))
     }
 
     /// The Wrap token with a given last octet and a given SGN_CKSUM.
@@ -185,7 +203,7 @@ impl TokenTerms {
             return Err(4);
         }
         let sequence = self.sequence(token)?;
-        if token[16..] != self.sgn_cksum(&MIC_HEADER, data) {
+        if token[16..] != self.mic_cksum(data) {
             return Err(6);
         }
         Ok(sequence)
@@ -205,7 +223,7 @@ impl TokenTerms {
         } else {
             token[24..].to_vec()
         };
-        if token[16..24] != self.sgn_cksum(&header, &plain) {
+        if token[16..24] != self.sgn_cksum(WRAP_MESSAGE_TYPE, &header, &plain) {
             return Err(6);
         }
         if plain.last() != Some(&PAD) {

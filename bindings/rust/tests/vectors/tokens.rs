@@ -1,5 +1,7 @@
-//! Tokens computed by other programs by the steps of RFC 4757, section 7, not
-//! published: RC4 by OpenSSL, MD5 and HMAC by Python's standard library.
+//! Tokens computed by other programs, not published: RC4 by OpenSSL, MD5 and
+//! HMAC by Python's standard library. They follow RFC 4757, section 7, with 13
+//! in the checksum of a Wrap token, the direction octets of RFC 1964, and nine
+//! octets AB in the keys of export strength.
 //!
 //! The key is the octets 00 to 0f, the confounder c0 to c7 and the sequence
 //! number 16,909,060 if none is given.
@@ -10,26 +12,26 @@ pub const MICS: [(bool, bool, &str, &str); 4] = [
     (
         false,
         false,
-        "01011100ffffffffccee6e73eee0cfbc469910ab927eb022",
-        "01011100fffffffffd3915a8cecb2dc5ad9c533fed790c46",
-    ),
-    (
-        false,
-        true,
         "01011100ffffffffccee6e73111f3043469910ab927eb022",
         "01011100fffffffffd3915a83134d23aad9c533fed790c46",
     ),
     (
+        false,
+        true,
+        "01011100ffffffffccee6e73eee0cfbc469910ab927eb022",
+        "01011100fffffffffd3915a8cecb2dc5ad9c533fed790c46",
+    ),
+    (
         true,
         false,
-        "01011100ffffffff61cbbfbaa4d0d481469910ab927eb022",
-        "01011100ffffffff86bb99e6cbbaa1c6ad9c533fed790c46",
+        "01011100ffffffff6befa4e7fad42a4b469910ab927eb022",
+        "01011100fffffffffad962bc96e02e84ad9c533fed790c46",
     ),
     (
         true,
         true,
-        "01011100ffffffff61cbbfba5b2f2b7e469910ab927eb022",
-        "01011100ffffffff86bb99e634455e39ad9c533fed790c46",
+        "01011100ffffffff6befa4e7052bd5b4469910ab927eb022",
+        "01011100fffffffffad962bc691fd17bad9c533fed790c46",
     ),
 ];
 
@@ -40,49 +42,49 @@ pub const WRAPS: [(bool, bool, bool, &str); 8] = [
         false,
         false,
         false,
-        "02011100ffffffff6b0ce33d8e8eab96893a154e65e2f534c0c1c2c3c4c5c6c76b696c6e01",
+        "02011100ffffffff7cbcb12fa338e5707b7618f6976446a5c0c1c2c3c4c5c6c76b696c6e01",
     ),
     (
         false,
         false,
         true,
-        "020111001000ffffffd79490324763186437ede3d8a02f5183e724de78fa9ecd4472189b8f",
+        "020111001000ffff7bc94f020281ec14a2e3662a8764415c83e724de78fa9ecd4472189b8f",
     ),
     (
         false,
         true,
         false,
-        "02011100ffffffff6b0ce33d71715469893a154e65e2f534c0c1c2c3c4c5c6c76b696c6e01",
+        "02011100ffffffff7cbcb12f5cc71a8f7b7618f6976446a5c0c1c2c3c4c5c6c76b696c6e01",
     ),
     (
         false,
         true,
         true,
-        "020111001000ffffffd79490cdb89ce76437ede3d8a02f5183e724de78fa9ecd4472189b8f",
+        "020111001000ffff7bc94f02fd7e13eba2e3662a8764415c83e724de78fa9ecd4472189b8f",
     ),
     (
         true,
         false,
         false,
-        "02011100ffffffff6b17881dcc7cd480893a154e65e2f534c0c1c2c3c4c5c6c76b696c6e01",
+        "02011100ffffffff7e0e7773bef03a347b7618f6976446a5c0c1c2c3c4c5c6c76b696c6e01",
     ),
     (
         true,
         false,
         true,
-        "020111001000ffff80ace40c2918bb806437ede3d8a02f51c998e2e8e5191d247349bb6e6c",
+        "020111001000ffff6b62aab3f6f374b8a2e3662a8764415c787b52c3ca7a6e7f5c61288518",
     ),
     (
         true,
         true,
         false,
-        "02011100ffffffff6b17881d33832b7f893a154e65e2f534c0c1c2c3c4c5c6c76b696c6e01",
+        "02011100ffffffff7e0e7773410fc5cb7b7618f6976446a5c0c1c2c3c4c5c6c76b696c6e01",
     ),
     (
         true,
         true,
         true,
-        "020111001000ffff80ace40cd6e7447f6437ede3d8a02f51c998e2e8e5191d247349bb6e6c",
+        "020111001000ffff6b62aab3090c8b47a2e3662a8764415c787b52c3ca7a6e7f5c61288518",
     ),
 ];
 
@@ -92,49 +94,49 @@ pub const EMPTY_WRAPS: [(bool, bool, bool, &str); 8] = [
         false,
         false,
         false,
-        "02011100ffffffff5e6a44ba9b98835d898c46f7efe1b1dcc0c1c2c3c4c5c6c701",
+        "02011100ffffffff7607d52415d5e33c5a50127b36a87e35c0c1c2c3c4c5c6c701",
     ),
     (
         false,
         false,
         true,
-        "020111001000fffff31fa0f1cc0ea9e19f620a4605599ab483e724de78fa9ecd2e",
+        "020111001000ffff6a3b718b0b441aff8789b0dd65e4ffa483e724de78fa9ecd2e",
     ),
     (
         false,
         true,
         false,
-        "02011100ffffffff5e6a44ba64677ca2898c46f7efe1b1dcc0c1c2c3c4c5c6c701",
+        "02011100ffffffff7607d524ea2a1cc35a50127b36a87e35c0c1c2c3c4c5c6c701",
     ),
     (
         false,
         true,
         true,
-        "020111001000fffff31fa0f133f1561e9f620a4605599ab483e724de78fa9ecd2e",
+        "020111001000ffff6a3b718bf4bbe5008789b0dd65e4ffa483e724de78fa9ecd2e",
     ),
     (
         true,
         false,
         false,
-        "02011100ffffffff1d0c84f43121cfd3898c46f7efe1b1dcc0c1c2c3c4c5c6c701",
+        "02011100ffffffff968043332e8313575a50127b36a87e35c0c1c2c3c4c5c6c701",
     ),
     (
         true,
         false,
         true,
-        "020111001000ffff09d4c5df38ffed8c9f620a4605599ab4c998e2e8e5191d2419",
+        "020111001000ffff5c26bcf5f01452c78789b0dd65e4ffa4787b52c3ca7a6e7f36",
     ),
     (
         true,
         true,
         false,
-        "02011100ffffffff1d0c84f4cede302c898c46f7efe1b1dcc0c1c2c3c4c5c6c701",
+        "02011100ffffffff96804333d17ceca85a50127b36a87e35c0c1c2c3c4c5c6c701",
     ),
     (
         true,
         true,
         true,
-        "020111001000ffff09d4c5dfc70012739f620a4605599ab4c998e2e8e5191d2419",
+        "020111001000ffff5c26bcf50febad388789b0dd65e4ffa4787b52c3ca7a6e7f36",
     ),
 ];
 
@@ -144,42 +146,42 @@ pub const NUMBERED_WRAPS: [(u32, bool, &str); 8] = [
     (
         0,
         false,
-        "020111001000fffffed59794324763186437ede3d8a02f5128bdbcb96294de32dcb5316149",
+        "020111001000ffff7acb4c060281ec14a2e3662a8764415c28bdbcb96294de32dcb5316149",
     ),
     (
         0,
         true,
-        "020111001000ffff81aee7082918bb806437ede3d8a02f51766bb2281e9da5d9475589d99d",
+        "020111001000ffff6a60a9b7f6f374b8a2e3662a8764415c26e58548c07eeebfdbeb7b106b",
     ),
     (
         1,
         false,
-        "020111001000fffffed59795324763186437ede3d8a02f5129c18eb3d7c3a24a4b90012188",
+        "020111001000ffff7acb4c070281ec14a2e3662a8764415c29c18eb3d7c3a24a4b90012188",
     ),
     (
         1,
         true,
-        "020111001000ffff81aee7092918bb806437ede3d8a02f5114c8f0064c2343e844394493cf",
+        "020111001000ffff6a60a9b6f6f374b8a2e3662a8764415ca5560cd5912bb883f68c00c2a2",
     ),
     (
         2147483648,
         false,
-        "020111001000ffff7ed59794324763186437ede3d8a02f51a911e754fa8f98175c967f631a",
+        "020111001000fffffacb4c060281ec14a2e3662a8764415ca911e754fa8f98175c967f631a",
     ),
     (
         2147483648,
         true,
-        "020111001000ffff01aee7082918bb806437ede3d8a02f51df6e8875e1df3d4a31a6f4195f",
+        "020111001000ffffea60a9b7f6f374b8a2e3662a8764415cb7c5e1765e9458463a505e57b0",
     ),
     (
         4294967295,
         false,
-        "020111001000ffff012a686b324763186437ede3d8a02f5162856b1e29f8ff86759467d95c",
+        "020111001000ffff8534b3f90281ec14a2e3662a8764415c62856b1e29f8ff86759467d95c",
     ),
     (
         4294967295,
         true,
-        "020111001000ffff7e5118f72918bb806437ede3d8a02f51e24805f4d8cd83c3614d856ce5",
+        "020111001000ffff959f5648f6f374b8a2e3662a8764415cabb5dd00ce1f234b816fb404a3",
     ),
 ];
 
@@ -189,35 +191,35 @@ pub const LONG_WRAPS: [(bool, bool, &str, &str, &str); 4] = [
     (
         false,
         false,
-        "02011100ffffffff167e20cd1bcc20d9f5c56a8fa38fc670c0c1c2c3c4c5c6c7001f3e5e7e9ebfe0",
+        "02011100ffffffff1ca41cf11c159b2b4b34088083c63aa2c0c1c2c3c4c5c6c7001f3e5e7e9ebfe0",
         "06b3600ebc6a19c87726d68636e79801",
-        "d2304fd855094e3d5dadeb1f0f81fb49",
+        "9772491604891bfde751b5306684f917",
     ),
     (
         false,
         true,
-        "020111001000ffff0c65a5c66f9f2ebb8bc56c6831989fdb83e724de78fa9ecd2f044aabf0505004",
+        "020111001000ffffecc025a9d1493937c1721fa9ac7b0f0083e724de78fa9ecd2f044aabf0505004",
         "9cd2a6c17c3a52a8712d6aac8d5b0e0e",
-        "e6b4c5b01cbf96e48abea85590f4fbe8",
+        "4984e3b1a181c1dac858484b0dc98f6c",
     ),
     (
         true,
         false,
-        "02011100ffffffff3e48f0371ee3d972f5c56a8fa38fc670c0c1c2c3c4c5c6c7001f3e5e7e9ebfe0",
+        "02011100ffffffffe91d92bf2c4f7fd34b34088083c63aa2c0c1c2c3c4c5c6c7001f3e5e7e9ebfe0",
         "06b3600ebc6a19c87726d68636e79801",
-        "6ad7b341a97559f97f9ca8fc8f60cdb5",
+        "715a5eab114666e0d88410398ae8fcfd",
     ),
     (
         true,
         true,
-        "020111001000ffff275baa9941e087d38bc56c6831989fdbc998e2e8e5191d24183fe95e133257c7",
-        "bbfaac21df40c5cb02c5ec895c5ef4fc",
-        "14b9545a4d46524e957d6d80e3885dd6",
+        "020111001000ffff437ba588b535a10bc1721fa9ac7b0f00787b52c3ca7a6e7f37177ab567a90f49",
+        "fb010f169aa3fa3ba1a7c6f5040802f4",
+        "3c36dc4971bdc929a1415906716c4241",
     ),
 ];
 
 /// Export strength or not, and the initiator's MIC of the long data.
 pub const LONG_MICS: [(bool, &str); 2] = [
-    (false, "01011100ffffffff3ea14e5550c887e2c31b2e4b8aac91a4"),
-    (true, "01011100ffffffffd25c956b1e6f762bc31b2e4b8aac91a4"),
+    (false, "01011100ffffffff3ea14e55af37781dc31b2e4b8aac91a4"),
+    (true, "01011100ffffffff9a33d3013823815bc31b2e4b8aac91a4"),
 ];

@@ -6,7 +6,6 @@ use Rattle.tokens.specs.Message as Spec
 use Rattle.tokens.specs.Strength.{exportFill}
 use Rattle.tokens.proofs.Salts.{salt-fits, salt-text}
 use borrow.Author.Needs.{needs}
-use native.Mathlib.Omega.{arith}
 use Rattle.tokens.proofs.message.derive.Statement.{statement}
 use Rattle.tokens.proofs.message.derive.Tie as tie
 
@@ -20,14 +19,11 @@ array-share-prefix-octets c = salt-fits _ _ (c .before .salt .ensures)
 slice-aggregate-of : tie.Need-slice-aggregate-of
 slice-aggregate-of c = sym (length-take-le _ _ (salt-fits _ _ (c .before .before .salt .ensures)))
 
-fill-requires : tie.Need-fill-requires
-fill-requires c κs = omega arith
-
 returns : tie.Need-returns
 unfolding Spec.k1
 returns c =
     let a = c .before .before .before .before .before .args in
-    (c .fill .ensures ∙ ap (exportFill 9 (a .strength)) (second (c .before)), second (c .before))
+    (c .fill .ensures ∙ ap (exportFill (a .strength)) (second (c .before)), second (c .before))
 
 pub derive-spec : {M : Type 1} → statement M
-derive-spec = tie.close (tie.spec (λ c κs. search needs) array-share-prefix-octets slice-aggregate-of (λ c κs. search needs) fill-requires returns)
+derive-spec = tie.close (tie.spec (λ c κs. search needs) array-share-prefix-octets slice-aggregate-of (λ c κs. search needs) (λ c κs. search needs) returns)

@@ -22,7 +22,7 @@ unfolding saltedKey
 returns c =
     let a = c .before .before .before .before .before .args in
     c .fill .ensures
-    ∙ ap (exportFill 7 (a .strength))
+    ∙ ap (exportFill (a .strength))
     (c .before .of .ensures
     ∙ ap (hmac (a .key)) (salt-text (a .strength) (0 ∷ 0 ∷ 0 ∷ 0 ∷ []) (c .before .before .before .before .new .ensures) ∙ ap (salt (a .strength)) (sym (little-endian-four 0))))
 

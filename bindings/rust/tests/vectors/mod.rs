@@ -1,12 +1,13 @@
 //! Vectors as data. Published ones: RFC 1320 and RFC 1321 (A.5), RFC 2104
 //! (appendix), RFC 2202 (section 2), RFC 6229 (section 2) and RFC 4757
-//! (section 2). And others: computed for this, or attributed to a source that
-//! was not at hand.
+//! (section 2). And others: computed for this, written by other
+//! implementations, or attributed to a source that was not at hand.
 
 // Each test file uses its own share of this module.
 #![allow(dead_code)]
 
 pub mod computed;
+pub mod implementations;
 pub mod krb5;
 pub mod rfc6229;
 pub mod tokens;

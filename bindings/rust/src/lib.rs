@@ -6,6 +6,11 @@
 //! Every function takes lengths within [limits] and answers a [`Refusal`]
 //! outside them; a refusal changes nothing that was lent.
 //!
+//! Where the steps of RFC 4757 differ from what is really sent, tokens are as
+//! they are sent: the checksum of a Wrap token begins with 13 and not 15, the
+//! direction octets are those of RFC 1964, and export strength sets nine octets
+//! to AB and not seven.
+//!
 //! A Wrap token, sealed by the initiator of a context and opened by its
 //! acceptor:
 //!

@@ -37,7 +37,7 @@ plain p = p .confounder ++ p .message
 unfoldable pub k2 : List ℕ → Strength → List ℕ → List ℕ
 k2 key strength t = hmac key (salt strength t)
 
--- K1, of which export strength sets its octets
+-- K1, with the octets that export strength sets
 unfoldable pub k1 : List ℕ → Strength → List ℕ → List ℕ
 k1 key strength t = exportFill strength (k2 key strength t)
 

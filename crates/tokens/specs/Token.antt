@@ -46,8 +46,8 @@ tokenChecksum key type header text = take 8 (checksum key (littleEndian 4 type) 
 
 -- ---- Kseq and Kcrypt
 
--- what both begin with: HMAC(key, salt for T = 0), of which export strength sets its octets as it does K1's. The steps print seven
--- octets here, where section 5 has nine; docs/RULES.md has both.
+-- what both begin with: HMAC(key, salt for T = 0), with the octets that export strength sets in K1 too. The steps print seven octets
+-- here, where section 5 has nine; docs/RULES.md has both.
 unfoldable pub saltedKey : Strength → List ℕ → List ℕ
 saltedKey strength key = exportFill strength (hmac key (salt strength (littleEndian 4 0)))
 

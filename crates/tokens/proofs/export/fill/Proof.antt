@@ -1,5 +1,7 @@
 -- The octets that are placed are nine that are all AB.
-use mathlib.Core.Path.{_∙_}
+use mathlib.Core.Path.{_≡_, _∙_}
+use lib.ListN.{replicate}
+use Rattle.tokens.specs.Limits.{placed}
 use Rattle.tokens.specs.Strength.{exportFill}
 use borrow.Author.Needs.{needs}
 use Rattle.tokens.proofs.export.fill.Statement.{statement}
@@ -11,7 +13,10 @@ returns c = rw (c .enum-told2 .given .1)
 
 returns-2 : tie.Need-returns-2
 unfolding exportFill
-returns-2 c = c .before .place .ensures ∙ rw (c .before .before .before .before .enum-told .given .1)
+returns-2 c =
+    let key = c .before .before .before .before .before .before .args .key in
+    let placed-is : _ ≡ placed 7 (replicate 9 0xab) key = c .before .place .ensures in
+    placed-is ∙ rw (c .before .before .before .before .enum-told .given .1)
 
 pub fill-spec : {M : Type 1} → statement M
 fill-spec = tie.close (tie.spec (λ c. search needs) (λ c. search needs) returns (λ c. search needs) (λ c. search needs) (λ c κs. search needs) returns-2)

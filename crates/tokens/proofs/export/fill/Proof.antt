@@ -1,8 +1,7 @@
--- The octets that are placed are nine that are all AB.
+-- What is placed is what the definition places for export.
 use mathlib.Core.Path.{_≡_, _∙_}
-use lib.ListN.{replicate}
-use Rattle.tokens.specs.Limits.{placed}
 use Rattle.tokens.specs.Strength.{exportFill}
+use Rattle.tokens.specs.declared.strength.Strength.the-variants.{Export}
 use borrow.Author.Needs.{needs}
 use Rattle.tokens.proofs.export.fill.Statement.{statement}
 use Rattle.tokens.proofs.export.fill.Tie as tie
@@ -15,8 +14,8 @@ returns-2 : tie.Need-returns-2
 unfolding exportFill
 returns-2 c =
     let key = c .before .before .before .before .before .before .args .key in
-    let placed-is : _ ≡ placed 7 (replicate 9 0xab) key = c .before .place .ensures in
-    placed-is ∙ rw (c .before .before .before .before .enum-told .given .1)
+    let filled : _ ≡ exportFill Export key = c .before .place .ensures in
+    filled ∙ rw (c .before .before .before .before .enum-told .given .1)
 
 pub fill-spec : {M : Type 1} → statement M
 fill-spec = tie.close (tie.spec (λ c. search needs) (λ c. search needs) returns (λ c. search needs) (λ c. search needs) (λ c κs. search needs) returns-2)

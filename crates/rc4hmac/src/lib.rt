@@ -3,6 +3,7 @@
 mod algorithms;
 mod answers;
 mod arguments;
+mod framed_tokens;
 mod gss_tokens;
 mod messages;
 mod receive_window;

@@ -1,14 +1,14 @@
 -- The laws of this crate's definitions that a crate above may cite.
 use mathlib.Core.Path.{_≡_, sym, ap, _∙_}
 use mathlib.Core.Bool.{Bool}
-use mathlib.Core.List.{List, _++_}
+use mathlib.Core.List.{List, _++_, append-assoc}
 use Prim.Native.Nat.{ℕ, _+_, _-_, _≤_}
 use native.Mathlib.Omega.{arith}
 use lib.ListN.{length, take, drop, length-append, length-take, length-drop}
-use lib.Seq.{take-at, drop-at, length-take-le}
-use borrow.Author.Tests.{leb-true}
+use lib.Seq.{take-at, drop-at, take-append-le, take-take, drop-drop, length-take-le}
+use borrow.Author.Tests.{leb-true, le-leb}
 use Rattle.primitives.specs.Octets.{Octets}
-use Rattle.tokens.specs.Answer.{done, number}
+use Rattle.tokens.specs.Answer.{done, require, number}
 use Rattle.tokens.specs.Limits.{mostMessage, region, placed}
 use Rattle.tokens.specs.Message as Message
 use Rattle.tokens.specs.Mic as Mic
@@ -21,6 +21,8 @@ use Rattle.tokens.proofs.Lengths as Lengths
 use Rattle.tokens.proofs.Lent as Lent
 use Rattle.tokens.proofs.Steps as Steps
 use Rattle.tokens.proofs.Steps.{require-done, done-same, within-bounds}
+use Rattle.tokens.proofs.mic.Exactly as MicExactly
+use Rattle.tokens.proofs.wrap.Exactly as WrapExactly
 
 -- no refusal has the number 0
 pub never-zero : (r : Refusal) → number r ≡ 0 → ⊥
@@ -45,6 +47,38 @@ module _ (start : ℕ) (octets buf : List ℕ) (inside : start + length octets �
   unfolding placed
   placed-length = simp (length-append, length-take, length-drop) (omega arith)
 
+-- octets placed after others that are placed before them
+pub placed-before : (start : ℕ) (a b buf : List ℕ) → start + length a + length b ≤ length buf → placed start a (placed (start + length a) b buf) ≡ placed start (a ++ b) buf
+unfolding placed
+placed-before start a b buf inside =
+    let before = take (start + length a) buf in
+    let behind = b ++ drop (start + length a + length b) buf in
+    let size : length before ≡ start + length a = length-take-le (start + length a) buf (omega arith) in
+    let sums : start + length a + length b ≡ start + length (a ++ b) = rw length-append (omega arith) in
+    rw (
+      take-append-le start before behind (omega arith),
+      take-take start (start + length a) buf (omega arith),
+      drop-at before behind (start + length a) size,
+      sums,
+      append-assoc a b (drop (start + length (a ++ b)) buf),
+    )
+
+-- or after them
+pub placed-after : (start : ℕ) (a b buf : List ℕ) → start + length a + length b ≤ length buf → placed (start + length a) b (placed start a buf) ≡ placed start (a ++ b) buf
+unfolding placed
+placed-after start a b buf inside =
+    let before = take start buf in
+    let behind = drop (start + length a) buf in
+    let size : length (before ++ a) ≡ start + length a = length-append before a ∙ ap (λ (n : ℕ). n + length a) (length-take-le start buf (omega arith)) in
+    let sums : start + length a + length b ≡ start + length (a ++ b) = rw length-append (omega arith) in
+    let split = sym (append-assoc before a behind) in
+    let rest : drop (start + length a + length b) (before ++ (a ++ behind)) ≡ drop (start + length (a ++ b)) buf
+    = sym (drop-drop (length b) (start + length a) (before ++ (a ++ behind)))
+    ∙ ap (drop (length b)) (ap (drop (start + length a)) split ∙ drop-at (before ++ a) behind (start + length a) size)
+    ∙ drop-drop (length b) (start + length a) buf
+    ∙ ap (λ (n : ℕ). drop n buf) sums in
+    rw (ap (take (start + length a)) split ∙ take-at (before ++ a) behind (start + length a) size, rest) (simp append-assoc)
+
 -- ---- The lengths of what the rules write
 
 pub message-length : (key : List ℕ) (strength : Strength) (t : List ℕ) (p : Message.Parts) → length (p .confounder) ≡ 8 → length (Message.encrypt key strength t p) ≡ Message.overhead + length (p .message)
@@ -57,7 +91,15 @@ mic-length context n text = Lengths.mic-length context text n
 pub wrap-length : (context : Context) (p : Wrap.Parts) → length (p .confounder) ≡ 8 → length (Wrap.wrapToken context p) ≡ Wrap.wrapLength (length (p .message))
 wrap-length context p eight = Lengths.wrap-length p eight context
 
--- ---- What a writer made
+-- ---- What the rules write, they write of one set of parts
+
+pub wrap-one : (context : Context) (p q : Wrap.Parts) (octets : List ℕ) → Wrap.Written context p octets → Wrap.Written context q octets → p ≡ q
+wrap-one = WrapExactly.only-one
+
+pub mic-one : (context : Context) (text : List ℕ) (j k : ℕ) (octets : List ℕ) → Mic.Written context text j octets → Mic.Written context text k octets → j ≡ k
+mic-one = MicExactly.only-one
+
+-- ---- What a writer made, and what it makes where nothing is refused
 
 module _ {octets : List ℕ} where
   pub message-made : (key : List ℕ) (strength : Strength) (usage : ℕ) (confounder buf : List ℕ) (start n : ℕ) → Message.encryption key strength usage confounder buf start n ≡ done octets
@@ -86,3 +128,13 @@ module _ {octets : List ℕ} where
       let sized = require-done _ _ _ octets e in
       let fits = require-done _ _ _ octets (sized .1) in
       (within-bounds 0 mostMessage n (sized .0) .1, leb-true _ _ (fits .0), sym (done-same (fits .1)))
+
+pub mic-makes : (context : Context) (n : ℕ) (text buf : List ℕ) (start : ℕ) → length text ≤ mostMessage → start + Mic.micLength ≤ length buf
+    → Mic.micWriting context n text buf start ≡ done (Mic.micToken context n text)
+unfolding Mic.micWriting require
+mic-makes context n text buf start most inside = rw (le-leb 0 (length text) (omega arith), le-leb (length text) mostMessage most, le-leb (start + Mic.micLength) (length buf) inside)
+
+pub wrap-makes : (context : Context) (sequence : ℕ) (confounder : List ℕ) (sealed : Bool) (buf : List ℕ) (start n : ℕ) → n ≤ mostMessage → start + Wrap.wrapLength n ≤ length buf
+    → Wrap.wrapWriting context sequence confounder sealed buf start n ≡ done (Wrap.wrapToken context (Wrap.parts sequence sealed confounder (region (start + Wrap.messageAt) n buf)))
+unfolding Wrap.wrapWriting require
+wrap-makes context sequence confounder sealed buf start n most inside = rw (le-leb 0 n (omega arith), le-leb n mostMessage most, le-leb (start + Wrap.wrapLength n) (length buf) inside)

@@ -1,7 +1,8 @@
--- The laws by which the functions of this crate are proved. Those that a crate above may cite are in `Laws`.
+-- The laws by which the functions of this crate are proved. A crate above may cite those of `Laws`, and of chains of tests (`Steps`)
+-- and of octets compared (`SameOctets`), if its own are of that form.
 pub mod Laws
-mod SameOctets
-mod Steps
+pub mod SameOctets
+pub mod Steps
 mod Placing
 mod Lent
 mod Salts

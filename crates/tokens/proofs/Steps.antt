@@ -32,6 +32,11 @@ unfolding tested
 test-held true r e = refl
 test-held false r e = cc
 
+pub test-failed : (b : Bool) (r : Refusal) {q : Refusal} → tested b r ≡ Refused q → (b ≡ false) × (r ≡ q)
+unfolding tested
+test-failed true r e = (cc, cc)
+test-failed false r e = (refl, cc)
+
 module _ {A : Type 0} (b : Bool) (r : Refusal) (o : Outcome A) {s : Status} (e : s ≡ tested b r) where
   pub goes-on : s ≡ Done → require b r o ≡ o
   unfolding require

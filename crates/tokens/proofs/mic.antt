@@ -1,2 +1,2 @@
 -- The laws of MIC tokens.
-mod Exactly
+pub mod Exactly

@@ -1,4 +1,4 @@
 -- The laws of Wrap tokens.
-mod Exactly
+pub mod Exactly
 mod Opening
 mod Regions

@@ -4,7 +4,7 @@ ghost use lib.Dec.{leb};
 ghost use Prim.Native.Nat.{_+_};
 ghost use Rattle.tokens.specs.Answer.{tested, stoppedDigest, stoppedExtent, stoppedSequence, stoppedUnwrapped, sequenceStatus};
 ghost use Rattle.tokens.specs.Limits.{within};
-ghost use Rattle.tokens.specs.Octets.{same};
+ghost use Rattle.tokens.specs.Octets as Spec;
 ghost use Rattle.tokens.specs.declared.answer.Refusal.the-variants as refusal;
 use crate::answer::Digest;
 use crate::answer::Extent;
@@ -12,7 +12,6 @@ use crate::answer::Refusal;
 use crate::answer::Sequence;
 use crate::answer::Status;
 use crate::answer::Unwrapped;
-use crate::octets;
 
 // Whether a length lies from `least` to `most`.
 pub fn length(least: usize, most: usize, n: usize) -> Status
@@ -40,11 +39,27 @@ pub fn region(start: usize, n: usize, end: usize) -> Status
     Status::Done
 }
 
+// Whether two lists have the same octets. All of them are looked at, whichever differ.
+pub fn same(a: &[u8], b: &[u8]) -> bool
+    ensures { λ r. ⌜ r ≡ Spec.same (now (a .entry)) (now (b .entry)) ⌝ }
+{
+    if a.len() != b.len() {
+        return false;
+    }
+    let mut difference: u8 = 0;
+    let mut i: usize = 0;
+    while i < a.len() {
+        difference = difference | (a[i] ^ b[i]);
+        i += 1;
+    }
+    difference == 0
+}
+
 // Whether octets are the ones expected, or the refusal. All of them are compared.
 pub fn equal(given: &[u8], expected: &[u8], refusal: Refusal) -> Status
-    ensures { λ r. ⌜ r ≡ tested (same (now (given .entry)) (now (expected .entry))) refusal ⌝ }
+    ensures { λ r. ⌜ r ≡ tested (Spec.same (now (given .entry)) (now (expected .entry))) refusal ⌝ }
 {
-    if octets::same(given, expected) {
+    if same(given, expected) {
         return Status::Done;
     }
     Status::Refused(refusal)

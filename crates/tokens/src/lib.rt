@@ -2,7 +2,7 @@
 // `usage` 3, `checksum` 4, `message` 5, `mic` 7.2 and `wrap` 7.3. Every public function takes any input, and refuses what it can't
 // use.
 pub mod answer;
-mod checks;
+pub mod checks;
 pub mod checksum;
 pub mod context;
 mod export;

@@ -1,25 +1,8 @@
-// Octets compared and copied.
+// Octets copied.
 ghost use mathlib.Core.Path.{_≡_};
 ghost use Prim.Native.Nat.{_+_, _≤_};
 ghost use lib.ListN.{length};
 ghost use Rattle.tokens.specs.Limits.{region, placed};
-ghost use Rattle.tokens.specs.Octets as Spec;
-
-// Whether two lists have the same octets. All of them are looked at, whichever differ.
-pub fn same(a: &[u8], b: &[u8]) -> bool
-    ensures { λ r. ⌜ r ≡ Spec.same (now (a .entry)) (now (b .entry)) ⌝ }
-{
-    if a.len() != b.len() {
-        return false;
-    }
-    let mut difference: u8 = 0;
-    let mut i: usize = 0;
-    while i < a.len() {
-        difference = difference | (a[i] ^ b[i]);
-        i += 1;
-    }
-    difference == 0
-}
 
 // Writes the octets of `part` over those of `buf` from `at`.
 pub fn place(buf: &mut [u8], at: usize, part: &[u8])

@@ -11,6 +11,7 @@ ghost use Rattle.tokens.specs.Checksum.{signatureKey};
 ghost use Rattle.tokens.specs.Token as Spec;
 use crate::answer::Refusal;
 use crate::answer::Sequence;
+use crate::checks;
 use crate::checksum;
 use crate::context::Context;
 use crate::context::Sender;
@@ -171,7 +172,7 @@ pub fn number_in(context: Context, front: [u8; 24]) -> Sequence
     let field = stream::eight(key, octets::eight(&front, SEQUENCE_AT));
     let sender = context.sender;
     let expected = direction(sender);
-    if octets::same(&field[4..], &expected) {
+    if checks::same(&field[4..], &expected) {
         return Sequence::Number(number_of(field));
     }
     Sequence::Refused(Refusal::Direction)

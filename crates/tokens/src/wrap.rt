@@ -72,11 +72,11 @@ fn sealed_in(front: [u8; 24]) -> Sealing
     ensures { λ r. ⌜ r ≡ Spec.sealingAnswer (Spec.sealedIn front) ⌝ }
 {
     let sealed = SEALED;
-    if octets::same(&front[..8], &sealed) {
+    if checks::same(&front[..8], &sealed) {
         return Sealing::Sealed(true);
     }
     let clear = CLEAR;
-    if octets::same(&front[..8], &clear) {
+    if checks::same(&front[..8], &clear) {
         return Sealing::Sealed(false);
     }
     Sealing::Refused(Refusal::Header)

@@ -69,7 +69,7 @@ module _ (context : Context) (text : List ℕ) where
   written-reads : (n : ℕ) (octets : List ℕ) → Written context text n octets → micNumber context text octets ≡ done n
   written-reads n octets w = ap (micNumber context text) (sym (w .as-written)) ∙ token-read n (w .number-fits)
 
-  only-one : (j k : ℕ) (octets : List ℕ) → Written context text j octets → Written context text k octets → j ≡ k
+  pub only-one : (j k : ℕ) (octets : List ℕ) → Written context text j octets → Written context text k octets → j ≡ k
   only-one j k octets v w = done-same (sym (written-reads j octets v) ∙ written-reads k octets w)
 
   module _ (buf : List ℕ) (start n : ℕ) where

@@ -210,7 +210,7 @@ module _ (context : Context) where
   written-opens : (p : Parts) (octets : List ℕ) → Written context p octets → opened context octets ≡ done p
   written-opens p octets w = ap (opened context) (sym (w .as-written)) ∙ token-opened p (w .confounder-eight) context (w .number-fits)
 
-  only-one : (p q : Parts) (octets : List ℕ) → Written context p octets → Written context q octets → p ≡ q
+  pub only-one : (p q : Parts) (octets : List ℕ) → Written context p octets → Written context q octets → p ≡ q
   only-one p q octets v w = done-same (sym (written-opens p octets v) ∙ written-opens q octets w)
 
   written-length : (p : Parts) (octets : List ℕ) → Written context p octets → length octets ≡ 33 + length (p .message)

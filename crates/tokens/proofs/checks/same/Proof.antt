@@ -10,8 +10,8 @@ use Rattle.tokens.specs.Octets.{same}
 use Rattle.tokens.proofs.SameOctets.{not-same, same-more, no-difference}
 use borrow.Author.Needs.{needs}
 use native.Mathlib.Omega.{arith}
-use Rattle.tokens.proofs.octets.same.Statement.{statement}
-use Rattle.tokens.proofs.octets.same.Tie as tie
+use Rattle.tokens.proofs.checks.same.Statement.{statement}
+use Rattle.tokens.proofs.checks.same.Tie as tie
 
 abbrev Inv-loop : tie.InvT-loop
 Inv-loop a b difference₀ i₀ difference i = (i ≤ length a) × (length a ≡ length b) × (same (take i a) (take i b) ≡ eqb difference 0)

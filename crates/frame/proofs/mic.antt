@@ -1,0 +1,2 @@
+-- The laws of framed MIC tokens.
+mod Exactly

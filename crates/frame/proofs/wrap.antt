@@ -1,0 +1,2 @@
+-- The laws of framed Wrap tokens.
+mod Exactly

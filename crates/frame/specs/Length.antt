@@ -1,0 +1,77 @@
+-- The length of DER: X.690, sections 8.1.3 and 10.1. The one form that says a number in the fewest octets, what a length says, and that
+-- the form is read back and is the only one so short.
+use Prim.Native.Nat.{ℕ, zero, suc, _+_, _*_, _-_, _/_, _%_, _≤_}
+use mathlib.Core.Path.{_≡_}
+use mathlib.Core.Bool.{cond, _&&_}
+use mathlib.Core.List.{List, [], _∷_, _++_}
+use lib.Dec.{leb, ltb}
+use lib.ListN.{length, getD, take, drop}
+use Rattle.primitives.specs.Octets.{Octets}
+use Rattle.tokens.specs.Octets.{same}
+use Rattle.frame.specs.declared.length.Contents.{Contents}
+use Rattle.frame.specs.declared.length.Contents.the-variants.{Counted, Wrong}
+use Rattle.frame.specs.declared.length.Value.{Value}
+use Rattle.frame.specs.declared.length.Value.the-variants.{Number, Above}
+
+-- ---- The shortest form
+
+-- how many octets a number takes with no zero before it, 0 none. The recursion ends with its first argument, and any that is not below
+-- the number will do
+unfoldable pub countWithin : ℕ → ℕ → ℕ
+countWithin zero n = zero
+countWithin (suc most) zero = zero
+countWithin (suc most) (suc n) = suc (countWithin most (suc n / 256))
+
+unfoldable pub octetCount : ℕ → ℕ
+octetCount n = countWithin n n
+
+-- the low k octets of a number, the highest first
+unfoldable pub highFirst : ℕ → ℕ → List ℕ
+highFirst zero n = []
+highFirst (suc k) n = highFirst k (n / 256) ++ n % 256 ∷ []
+
+-- a number below 128 is one octet; any other is 128 and the count of its octets, and then those
+unfoldable pub derLength : ℕ → List ℕ
+derLength n = cond (ltb n 128) (n ∷ []) ((128 + octetCount n) ∷ highFirst (octetCount n) n)
+
+-- ---- What a length says
+
+-- the number that octets say, the highest first, after a number that stands before them
+unfoldable pub valueAfter : ℕ → List ℕ → ℕ
+valueAfter n [] = n
+valueAfter n (octet ∷ octets) = valueAfter (n * 256 + octet) octets
+
+-- a number, if it is at most so much
+abbrev pub upTo : ℕ → ℕ → Value
+upTo most n = cond (leb n most) (Number n) Above
+
+-- how many octets the length at the front of some octets takes, by its first
+unfoldable pub widthIn : List ℕ → ℕ
+widthIn octets = cond (ltb (getD octets 0 0) 128) 1 (getD octets 0 0 - 127)
+
+-- the number that it says
+unfoldable pub valueIn : List ℕ → ℕ
+valueIn octets = cond (ltb (getD octets 0 0) 128) (getD octets 0 0) (valueAfter 0 (take (getD octets 0 0 - 128) (drop 1 octets)))
+
+-- a length in the shortest form, if all that it counts follows it: the octets that it takes, and how many it counts
+unfoldable pub contentsIn : List ℕ → Contents
+contentsIn octets =
+    cond (same (take (widthIn octets) octets) (derLength (valueIn octets)) && leb (widthIn octets + valueIn octets) (length octets))
+    (Counted (widthIn octets) (valueIn octets))
+    Wrong
+
+-- ---- The shortest form is read back, and is the only one so short
+
+-- Octets that are one length, and no more, and say n. 80 is no length: it leaves the end open.
+pub record Says (octets : List ℕ) (n : ℕ) : Type 0 where
+  pub octets-are : Octets octets
+  pub closed : getD octets 0 0 ≡ 0x80 → ⊥
+  pub whole : widthIn octets ≡ length octets
+  pub value : valueIn octets ≡ n
+
+-- For every number (`shortest-form` of `proofs/Lengths.antt`).
+pub record ShortestForm (n : ℕ) : Type 0 where
+  pub width-back : (rest : List ℕ) → widthIn (derLength n ++ rest) ≡ length (derLength n)
+  pub value-back : (rest : List ℕ) → valueIn (derLength n ++ rest) ≡ n
+  pub shortest : (octets : List ℕ) → Says octets n → length (derLength n) ≤ length octets
+  pub only-one : (octets : List ℕ) → Says octets n → length octets ≡ length (derLength n) → octets ≡ derLength n

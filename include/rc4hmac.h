@@ -1,7 +1,7 @@
 /* The C interface of librc4hmac.a: the keys, checksums, encrypted messages, MIC
- * tokens and Wrap tokens of RC4-HMAC (RFC 4757), receive windows for the tokens
- * of a session, and MD4, MD5, HMAC-MD5 and RC4 under them, over octets in
- * memory, for x86-64 Linux. */
+ * tokens and Wrap tokens of RC4-HMAC (RFC 4757), the tokens also in GSS-API's
+ * outer frame (RFC 2743), receive windows for the tokens of a session, and MD4,
+ * MD5, HMAC-MD5 and RC4 under them, over octets in memory, for x86-64 Linux. */
 
 #ifndef RC4HMAC_H
 #define RC4HMAC_H
@@ -13,7 +13,8 @@
 extern "C" {
 #endif
 
-/* Every function answers a refusal number, the lowest that applies. With a
+/* Every function answers a refusal number, the lowest that applies; the readers
+ * of framed tokens have an order of their own, which is told there. With a
  * refusal every digest, key, checksum, length, number and status written is
  * zero, and no octet of lent data and no word of a window is changed.
  *
@@ -38,6 +39,7 @@ extern "C" {
 #define RC4HMAC_REFUSED_DIRECTION 5u /* not from the expected sender */
 #define RC4HMAC_REFUSED_CHECKSUM 6u  /* the checksum differs */
 #define RC4HMAC_REFUSED_PAD 7u       /* the pad octet is not 01 */
+#define RC4HMAC_REFUSED_FRAME 9u     /* the region is not one whole frame */
 
 /* Statuses of a sequence number in a receive window, with their names in RFC
  * 2743, section 1.2.3; the last has none there. */
@@ -70,6 +72,9 @@ extern "C" {
 #define RC4HMAC_WRAP_MESSAGE_OFFSET 32u
 #define RC4HMAC_WRAP_MIN 33u
 #define RC4HMAC_WRAP_MAX 32801u
+#define RC4HMAC_FRAMED_MIC_LEN 37u
+#define RC4HMAC_FRAMED_WRAP_MIN 46u
+#define RC4HMAC_FRAMED_WRAP_MAX 32816u
 
 /* The words of a window, and the distances that it keeps a mark for. */
 #define RC4HMAC_WINDOW_WORDS 4u
@@ -151,7 +156,8 @@ uint32_t rc4hmac_decrypt(const uint8_t key[16], uint32_t export_strength,
                          uint8_t *buf, size_t buf_len,
                          size_t start, size_t length, size_t *data_len);
 
-/* MIC and Wrap tokens (RFC 4757, section 7), without GSS-API's outer frame.
+/* MIC and Wrap tokens (RFC 4757, section 7), without GSS-API's outer frame; the
+ * calls for framed tokens follow below.
  *
  * `export_strength`, `acceptor` and `sealed` are 0 for no and anything else for
  * yes. `acceptor` says who the sender is, the acceptor of the context or its
@@ -221,6 +227,80 @@ uint32_t rc4hmac_wrap_open(const uint8_t key[16], uint32_t export_strength,
                            size_t start, size_t length,
                            uint32_t *sequence, uint32_t *sealed,
                            size_t *message_len);
+
+/* The same tokens in GSS-API's outer frame (RFC 2743, section 3.1), as they
+ * travel: 60, a DER length, the mechanism 06 09 2a 86 48 86 f7 12 01 02 02, and
+ * then the token, which ends the frame. The length counts the mechanism's
+ * eleven octets and the token's, in the shortest form: one octet up to 127, 81
+ * and one octet up to 255, 82 and two octets up to 65,535, and so on. What
+ * stands before the token, the lead, is 13 octets before a MIC token, and 13,
+ * 14 or 15 before a Wrap token with a message of up to 83, up to 211 or more
+ * octets.
+ *
+ * All that is said above of tokens holds of framed ones, and where octets of a
+ * token are named they are counted from the token's own first.
+ *
+ * The readers refuse first with RC4HMAC_REFUSED_REGION a region that is not
+ * inside the buffer; then with RC4HMAC_REFUSED_FRAME a region that is not one
+ * whole frame: one shorter than 13 octets, with another tag or mechanism, with a
+ * length in another form than the shortest, or with a length that ends before or
+ * after the region does; and then as the readers of tokens do, for the token in
+ * the frame: RC4HMAC_REFUSED_LENGTH, for the data or the token, comes first of
+ * these, and so after the two others. */
+
+/* Writes the framed MIC token of 0 to RC4HMAC_MESSAGE_MAX octets of data and a
+ * sequence number to the RC4HMAC_FRAMED_MIC_LEN octets at `start`, and that
+ * length to `written`. */
+uint32_t rc4hmac_framed_mic_write(const uint8_t key[16],
+                                  uint32_t export_strength,
+                                  uint32_t acceptor, uint32_t sequence,
+                                  const uint8_t *data, size_t data_len,
+                                  uint8_t *buf, size_t buf_len,
+                                  size_t start, size_t *written);
+
+/* Whether the `length` octets at `start` are a framed MIC token of the data, by
+ * the answer. The sequence number is written to `sequence`; nothing is written
+ * to the buffer. */
+uint32_t rc4hmac_framed_mic_read(const uint8_t key[16],
+                                 uint32_t export_strength, uint32_t acceptor,
+                                 const uint8_t *data, size_t data_len,
+                                 const uint8_t *buf, size_t buf_len,
+                                 size_t start, size_t length,
+                                 uint32_t *sequence);
+
+/* Writes to `lead` how many octets of a framed Wrap token stand before the token
+ * if its message is `message_len` octets long, 0 to RC4HMAC_MESSAGE_MAX: 13, 14
+ * or 15. A longer message is refused for its length. */
+uint32_t rc4hmac_framed_wrap_lead(size_t message_len, size_t *lead);
+
+/* Writes a framed Wrap token in place. The message, 0 to RC4HMAC_MESSAGE_MAX
+ * octets, stands where it will stand in the framed token: the lead, which
+ * rc4hmac_framed_wrap_lead tells, and RC4HMAC_WRAP_MESSAGE_OFFSET octets after
+ * `start`. The region from `start` to one octet after the message becomes the
+ * lead and the token that rc4hmac_wrap_write writes, and its length, the lead
+ * and RC4HMAC_WRAP_OVERHEAD more than the message's, is written to `written`. */
+uint32_t rc4hmac_framed_wrap_write(const uint8_t key[16],
+                                   uint32_t export_strength,
+                                   uint32_t acceptor, uint32_t sequence,
+                                   const uint8_t confounder[8],
+                                   uint32_t sealed,
+                                   uint8_t *buf, size_t buf_len,
+                                   size_t start, size_t message_len,
+                                   size_t *written);
+
+/* Opens a framed Wrap token in place: the region of `length` octets at `start`,
+ * RC4HMAC_FRAMED_WRAP_MIN to RC4HMAC_FRAMED_WRAP_MAX of them in a token that
+ * opens, keeps its lead and the token's octets 0 to 23 and has the confounder,
+ * the message and the pad plain. The pad is the region's last octet, so that the
+ * message begins at start + length - 1 - message_len. The sequence number is
+ * written to `sequence`, 1 or 0 for sealed or not to `sealed` and the message's
+ * length to `message_len`. */
+uint32_t rc4hmac_framed_wrap_open(const uint8_t key[16],
+                                  uint32_t export_strength, uint32_t acceptor,
+                                  uint8_t *buf, size_t buf_len,
+                                  size_t start, size_t length,
+                                  uint32_t *sequence, uint32_t *sealed,
+                                  size_t *message_len);
 
 /* The receive window of a session, which bills each sequence number once.
  *

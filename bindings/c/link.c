@@ -1,6 +1,6 @@
 /* Links librc4hmac.a from C: a vector and a refusal, or more, of each function
- * of rc4hmac.h. A vector whose source is not named was computed with OpenSSL
- * (RC4) and Python (MD5, HMAC). */
+ * of rc4hmac.h. A vector whose source is not named was computed with Python
+ * (MD5, HMAC) and OpenSSL (RC4; for framed tokens, RC4 in Python). */
 
 #include <stdio.h>
 #include <string.h>
@@ -342,36 +342,49 @@ static const uint8_t other_pad[RC4HMAC_WRAP_OVERHEAD + 4u] = {
     0x44, 0x72, 0x18, 0x9b, 0x8c
 };
 
-static void check_mic_write(void)
+/* The initiator's token of "kiln", full strength, written by a call for MIC
+ * tokens, and what the call refuses. */
+static void check_mic_writer(
+    uint32_t (*call)(const uint8_t *, uint32_t, uint32_t, uint32_t,
+                     const uint8_t *, size_t, uint8_t *, size_t, size_t,
+                     size_t *),
+    const uint8_t *expected, size_t expected_len,
+    const char *vector, const char *region, const char *length)
 {
-    uint8_t buf[RC4HMAC_MIC_LEN + 2u];
+    uint8_t buf[RC4HMAC_FRAMED_MIC_LEN + 2u];
+    size_t buf_len = expected_len + 2u;
     size_t written = 99;
     uint32_t answer;
 
     memset(buf, 0x5a, sizeof buf);
-    answer = rc4hmac_mic_write(token_key, 0, 0, TOKEN_SEQUENCE,
-                               (const uint8_t *)"kiln", 4,
-                               buf, sizeof buf, 1, &written);
-    check("MIC of \"kiln\"",
-          answer == RC4HMAC_DONE && written == RC4HMAC_MIC_LEN
-              && memcmp(buf + 1, mic, sizeof mic) == 0
-              && buf[0] == 0x5a && buf[sizeof buf - 1] == 0x5a);
+    answer = call(token_key, 0, 0, TOKEN_SEQUENCE, (const uint8_t *)"kiln", 4,
+                  buf, buf_len, 1, &written);
+    check(vector,
+          answer == RC4HMAC_DONE && written == expected_len
+              && memcmp(buf + 1, expected, expected_len) == 0
+              && buf[0] == 0x5a && buf[buf_len - 1] == 0x5a);
 
     memset(buf, 0x5a, sizeof buf);
-    answer = rc4hmac_mic_write(token_key, 0, 0, TOKEN_SEQUENCE,
-                               (const uint8_t *)"kiln", 4,
-                               buf, sizeof buf, 3, &written);
-    check("a MIC one octet past the buffer is refused",
+    answer = call(token_key, 0, 0, TOKEN_SEQUENCE, (const uint8_t *)"kiln", 4,
+                  buf, buf_len, 3, &written);
+    check(region,
           answer == RC4HMAC_REFUSED_REGION && written == 0
               && all_are(buf, sizeof buf, 0x5a));
 
     written = 99;
-    answer = rc4hmac_mic_write(token_key, 0, 0, TOKEN_SEQUENCE,
-                               too_long, RC4HMAC_MESSAGE_MAX + 1u,
-                               buf, sizeof buf, 3, &written);
-    check("a MIC of data one octet too long is refused",
+    answer = call(token_key, 0, 0, TOKEN_SEQUENCE,
+                  too_long, RC4HMAC_MESSAGE_MAX + 1u,
+                  buf, buf_len, 3, &written);
+    check(length,
           answer == RC4HMAC_REFUSED_LENGTH && written == 0
               && all_are(buf, sizeof buf, 0x5a));
+}
+
+static void check_mic_write(void)
+{
+    check_mic_writer(rc4hmac_mic_write, mic, sizeof mic, "MIC of \"kiln\"",
+                     "a MIC one octet past the buffer is refused",
+                     "a MIC of data one octet too long is refused");
 }
 
 /* Reads a MIC, which stays as it is, for the data and the sender. */
@@ -555,6 +568,256 @@ static void check_token_round_trips(void)
                            "sealed round trip, export strength, acceptor");
     check_token_round_trip(2, 0, 8,
                            "clear round trip, export strength, acceptor");
+}
+
+/* The two tokens in their frames. */
+static const uint8_t framed_mic[RC4HMAC_FRAMED_MIC_LEN] = {
+    0x60, 0x23, 0x06, 0x09, 0x2a, 0x86, 0x48, 0x86,
+    0xf7, 0x12, 0x01, 0x02, 0x02, 0x01, 0x01, 0x11,
+    0x00, 0xff, 0xff, 0xff, 0xff, 0xcc, 0xee, 0x6e,
+    0x73, 0x11, 0x1f, 0x30, 0x43, 0x46, 0x99, 0x10,
+    0xab, 0x92, 0x7e, 0xb0, 0x22
+};
+static const uint8_t framed_token[RC4HMAC_FRAMED_WRAP_MIN + 4u] = {
+    0x60, 0x30, 0x06, 0x09, 0x2a, 0x86, 0x48, 0x86,
+    0xf7, 0x12, 0x01, 0x02, 0x02, 0x02, 0x01, 0x11,
+    0x00, 0x10, 0x00, 0xff, 0xff, 0x6b, 0x62, 0xaa,
+    0xb3, 0x09, 0x0c, 0x8b, 0x47, 0xa2, 0xe3, 0x66,
+    0x2a, 0x87, 0x64, 0x41, 0x5c, 0x78, 0x7b, 0x52,
+    0xc3, 0xca, 0x7a, 0x6e, 0x7f, 0x5c, 0x61, 0x28,
+    0x85, 0x18
+};
+
+/* The initiator's framed token of the octets 0 to 83, clear, full strength,
+ * before its confounder. */
+static const uint8_t framed_front[14u + 24u] = {
+    0x60, 0x81, 0x80, 0x06, 0x09, 0x2a, 0x86, 0x48,
+    0x86, 0xf7, 0x12, 0x01, 0x02, 0x02, 0x02, 0x01,
+    0x11, 0x00, 0xff, 0xff, 0xff, 0xff, 0x4a, 0x35,
+    0x3c, 0xfb, 0xac, 0x55, 0xf0, 0xa4, 0x02, 0xfc,
+    0x8a, 0xb3, 0xb5, 0xae, 0x24, 0xd8
+};
+
+static void check_framed_mic_write(void)
+{
+    check_mic_writer(rc4hmac_framed_mic_write, framed_mic, sizeof framed_mic,
+                     "framed MIC of \"kiln\"",
+                     "a framed MIC one octet past the buffer is refused",
+                     "a framed MIC of data one octet too long is refused");
+}
+
+/* Reads a framed MIC of "kiln" that has one octet changed. */
+static void check_framed_mic_read(const char *what, size_t at, uint8_t change,
+                                  size_t length, uint32_t expected,
+                                  uint32_t expected_sequence)
+{
+    uint8_t buf[sizeof framed_mic];
+    uint8_t before[sizeof framed_mic];
+    uint32_t sequence = 99;
+    uint32_t answer;
+
+    memcpy(buf, framed_mic, sizeof buf);
+    buf[at] ^= change;
+    memcpy(before, buf, sizeof before);
+    answer = rc4hmac_framed_mic_read(token_key, 0, 0,
+                                     (const uint8_t *)"kiln", 4,
+                                     buf, sizeof buf, 0, length, &sequence);
+    check(what,
+          answer == expected && sequence == expected_sequence
+              && memcmp(buf, before, sizeof buf) == 0);
+}
+
+static void check_framed_mic_reads(void)
+{
+    size_t len = sizeof framed_mic;
+
+    check_framed_mic_read("framed MIC of \"kiln\" is read", 0, 0, len,
+                          RC4HMAC_DONE, TOKEN_SEQUENCE);
+    check_framed_mic_read("a framed MIC with another number is read with it",
+                          13 + 11, 1, len, RC4HMAC_DONE, TOKEN_SEQUENCE ^ 1u);
+    check_framed_mic_read("a framed MIC past the buffer is refused", 0, 1,
+                          len + 1u, RC4HMAC_REFUSED_REGION, 0);
+    check_framed_mic_read("a framed MIC with another tag is refused", 0, 1,
+                          len, RC4HMAC_REFUSED_FRAME, 0);
+    check_framed_mic_read("a framed MIC with another length is refused", 1, 1,
+                          len, RC4HMAC_REFUSED_FRAME, 0);
+    check_framed_mic_read("a framed MIC with another mechanism is refused",
+                          12, 1, len, RC4HMAC_REFUSED_FRAME, 0);
+    check_framed_mic_read("a framed MIC one octet too short is refused", 0, 0,
+                          len - 1u, RC4HMAC_REFUSED_FRAME, 0);
+    check_framed_mic_read("a framed MIC with another header is refused", 13,
+                          1, len, RC4HMAC_REFUSED_HEADER, 0);
+    check_framed_mic_read("a framed MIC with another direction is refused",
+                          13 + 12, 1, len, RC4HMAC_REFUSED_DIRECTION, 0);
+}
+
+static void check_framed_wrap_lead(void)
+{
+    static const struct { size_t message_len, lead; } leads[] = {
+        { 0, 13 }, { 83, 13 }, { 84, 14 }, { 211, 14 }, { 212, 15 },
+        { RC4HMAC_MESSAGE_MAX, 15 }
+    };
+    size_t lead, i;
+    uint32_t answer;
+
+    for (i = 0; i < sizeof leads / sizeof leads[0]; i++) {
+        lead = 99;
+        answer = rc4hmac_framed_wrap_lead(leads[i].message_len, &lead);
+        check("the lead of a framed token",
+              answer == RC4HMAC_DONE && lead == leads[i].lead);
+    }
+
+    answer = rc4hmac_framed_wrap_lead(RC4HMAC_MESSAGE_MAX + 1u, &lead);
+    check("the lead of a message one octet too long is refused",
+          answer == RC4HMAC_REFUSED_LENGTH && lead == 0);
+}
+
+static void check_framed_wrap_write(void)
+{
+    uint8_t buf[sizeof framed_front + RC4HMAC_CONFOUNDER_LEN + 84u + 1u];
+    const uint8_t *plain = buf + sizeof framed_front;
+    size_t written = 99;
+    uint32_t answer;
+    uint8_t i;
+
+    memset(buf, 0x5a, sizeof buf);
+    memcpy(buf + 13u + RC4HMAC_WRAP_MESSAGE_OFFSET, "kiln", 4);
+    answer = rc4hmac_framed_wrap_write(token_key, 1, 1, TOKEN_SEQUENCE,
+                                       token_confounder, 1,
+                                       buf, sizeof buf, 0, 4, &written);
+    check("framed sealed token of \"kiln\", export strength",
+          answer == RC4HMAC_DONE && written == sizeof framed_token
+              && memcmp(buf, framed_token, sizeof framed_token) == 0
+              && all_are(buf + written, sizeof buf - written, 0x5a));
+
+    memset(buf, 0x5a, sizeof buf);
+    for (i = 0; i < 84; i++) {
+        buf[14u + RC4HMAC_WRAP_MESSAGE_OFFSET + i] = i;
+    }
+    answer = rc4hmac_framed_wrap_write(token_key, 0, 0, TOKEN_SEQUENCE,
+                                       token_confounder, 0,
+                                       buf, sizeof buf, 0, 84, &written);
+    check("framed clear token of 84 octets",
+          answer == RC4HMAC_DONE && written == sizeof buf
+              && memcmp(buf, framed_front, sizeof framed_front) == 0
+              && memcmp(plain, token_confounder, 8) == 0
+              && plain[8] == 0 && plain[8 + 83] == 83 && plain[8 + 84] == 1);
+
+    memset(buf, 0x5a, sizeof buf);
+    answer = rc4hmac_framed_wrap_write(token_key, 0, 0, TOKEN_SEQUENCE,
+                                       token_confounder, 0,
+                                       buf, sizeof buf, 0, 85, &written);
+    check("a framed token one octet past the buffer is refused",
+          answer == RC4HMAC_REFUSED_REGION && written == 0
+              && all_are(buf, sizeof buf, 0x5a));
+
+    written = 99;
+    answer = rc4hmac_framed_wrap_write(token_key, 0, 0, TOKEN_SEQUENCE,
+                                       token_confounder, 0, buf, sizeof buf,
+                                       0, RC4HMAC_MESSAGE_MAX + 1u, &written);
+    check("a framed message one octet too long is refused",
+          answer == RC4HMAC_REFUSED_LENGTH && written == 0
+              && all_are(buf, sizeof buf, 0x5a));
+}
+
+static void check_framed_wrap_open(void)
+{
+    uint8_t buf[sizeof framed_token + 5u];
+    uint32_t sequence = 99, sealed = 99;
+    size_t message_len = 99;
+    size_t length = sizeof framed_token;
+    uint32_t answer;
+
+    memset(buf, 0x5a, sizeof buf);
+    memcpy(buf + 3, framed_token, length);
+    answer = rc4hmac_framed_wrap_open(token_key, 1, 1, buf, sizeof buf,
+                                      3, length,
+                                      &sequence, &sealed, &message_len);
+    check("framed sealed token of \"kiln\" opens",
+          answer == RC4HMAC_DONE && sequence == TOKEN_SEQUENCE
+              && sealed == 1 && message_len == 4
+              && memcmp(buf + 3, framed_token, 13 + 24) == 0
+              && memcmp(buf + 3 + 13 + 24, token_confounder, 8) == 0
+              && memcmp(buf + 3 + length - 1 - message_len, "kiln\001", 5) == 0
+              && all_are(buf, 3, 0x5a)
+              && all_are(buf + 3 + length, 2, 0x5a));
+}
+
+/* A region that is refused: it stays as it is, and every answer is zero. */
+static void check_framed_refused(const char *what, const uint8_t *region,
+                                 size_t region_len, uint32_t flag,
+                                 size_t length, uint32_t expected)
+{
+    uint8_t buf[sizeof framed_token + 2u];
+    uint32_t sequence = 99, sealed = 99;
+    size_t message_len = 99;
+    uint32_t answer;
+
+    memcpy(buf, region, region_len);
+    answer = rc4hmac_framed_wrap_open(token_key, flag, flag,
+                                      buf, region_len, 0, length,
+                                      &sequence, &sealed, &message_len);
+    check(what,
+          answer == expected && sequence == 0 && sealed == 0
+              && message_len == 0 && memcmp(buf, region, region_len) == 0);
+}
+
+static void check_framed_wrap_refusals(void)
+{
+    /* Each octet here is changed by the lowest bit. */
+    static const struct {
+        const char *what;
+        size_t at;
+        uint32_t expected;
+    } changes[] = {
+        { "another tag is refused", 0, RC4HMAC_REFUSED_FRAME },
+        { "another length is refused", 1, RC4HMAC_REFUSED_FRAME },
+        { "another mechanism is refused", 2, RC4HMAC_REFUSED_FRAME },
+        { "a mechanism that ends otherwise is refused", 12,
+          RC4HMAC_REFUSED_FRAME },
+        { "another header in a frame is refused", 13, RC4HMAC_REFUSED_HEADER },
+        { "another direction in a frame is refused", 13 + 12,
+          RC4HMAC_REFUSED_DIRECTION },
+        { "a damaged token in a frame is refused and left", 13 + 34,
+          RC4HMAC_REFUSED_CHECKSUM }
+    };
+    uint8_t buf[sizeof framed_token + 1u];
+    size_t len = sizeof framed_token;
+    size_t i;
+
+    for (i = 0; i < sizeof changes / sizeof changes[0]; i++) {
+        memcpy(buf, framed_token, len);
+        buf[changes[i].at] ^= 1;
+        check_framed_refused(changes[i].what, buf, len, 1, len,
+                             changes[i].expected);
+    }
+
+    memcpy(buf, framed_token, len);
+    buf[len] = 0;
+    check_framed_refused("a frame that ends before its region is refused",
+                         buf, len + 1u, 1, len + 1u, RC4HMAC_REFUSED_FRAME);
+    check_framed_refused("a frame that ends after its region is refused",
+                         buf, len, 1, len - 1u, RC4HMAC_REFUSED_FRAME);
+    check_framed_refused("a region past the buffer is refused for that",
+                         buf + 1, len, 1, len + 1u, RC4HMAC_REFUSED_REGION);
+
+    buf[1] = 0x81;
+    buf[2] = 0x30;
+    memcpy(buf + 3, framed_token + 2, len - 2u);
+    check_framed_refused("a length in a longer form is refused",
+                         buf, len + 1u, 1, len + 1u, RC4HMAC_REFUSED_FRAME);
+
+    memcpy(buf, framed_token, 13);
+    buf[1] = 0x0b;
+    check_framed_refused("a frame without a token is refused for its length",
+                         buf, 13, 1, 13, RC4HMAC_REFUSED_LENGTH);
+    check_framed_refused("a region of 12 octets is refused", buf, 13, 1, 12,
+                         RC4HMAC_REFUSED_FRAME);
+
+    memcpy(buf, framed_token, 13);
+    memcpy(buf + 13, other_pad, sizeof other_pad);
+    check_framed_refused("another pad in a frame is refused and left",
+                         buf, len, 0, len, RC4HMAC_REFUSED_PAD);
 }
 
 /* The four words of a window. */
@@ -789,6 +1052,12 @@ int main(void)
     check_wrap_open();
     check_wrap_refusals();
     check_token_round_trips();
+    check_framed_mic_write();
+    check_framed_mic_reads();
+    check_framed_wrap_lead();
+    check_framed_wrap_write();
+    check_framed_wrap_open();
+    check_framed_wrap_refusals();
     check_window_new();
     check_window_bill();
     check_window_words();

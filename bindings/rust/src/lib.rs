@@ -1,7 +1,7 @@
 //! Safe functions over `librc4hmac.a`: the keys, checksums, encrypted messages,
-//! MIC tokens and Wrap tokens of RC4-HMAC (RFC 4757), a receive window for the
-//! tokens of a session, and MD4, MD5, HMAC-MD5 and RC4 under them, over octets in
-//! memory, on x86-64 Linux.
+//! MIC tokens and Wrap tokens of RC4-HMAC (RFC 4757), the tokens also in GSS-API's
+//! outer frame (RFC 2743), a receive window for the tokens of a session, and MD4,
+//! MD5, HMAC-MD5 and RC4 under them, over octets in memory, on x86-64 Linux.
 //!
 //! Every function takes lengths within [limits] and answers a [`Refusal`]
 //! outside them; a refusal changes nothing that was lent.
@@ -35,7 +35,31 @@
 //! # Ok::<(), rc4hmac::Refusal>(())
 //! ```
 //!
-//! The same with a [`Window`], which bills each sequence number once:
+//! The same in GSS-API's outer frame, as tokens travel:
+//!
+//! ```
+//! use rc4hmac::{framed_wrap_lead, framed_wrap_open, framed_wrap_write};
+//! use rc4hmac::{Context, Sender, Strength};
+//!
+//! let context = Context {
+//!     key: [7; 16],
+//!     strength: Strength::Full,
+//!     sender: Sender::Initiator,
+//! };
+//!
+//! // The lead, 32 octets for the header fields, the message, one for the pad.
+//! let lead = framed_wrap_lead(8)?;
+//! let mut buf = [&vec![0; lead + 32], &b"a record"[..], &[0]].concat();
+//! let written = framed_wrap_write(&context, 1, b"a nonce!", true, &mut buf, 0, 8)?;
+//! assert_eq!((buf[0], written), (0x60, 54));
+//!
+//! let opened = framed_wrap_open(&context, &mut buf, 0, written)?;
+//! let message = written - 1 - opened.message_len;
+//! assert_eq!(&buf[message..written - 1], b"a record");
+//! # Ok::<(), rc4hmac::Refusal>(())
+//! ```
+//!
+//! An unframed one with a [`Window`], which bills each sequence number once:
 //!
 //! ```
 //! use rc4hmac::{wrap_write, Context, Sender, Status, Strength, Window};
@@ -85,6 +109,7 @@
 pub mod limits;
 pub mod raw;
 
+mod frames;
 mod lent;
 mod messages;
 mod primitives;
@@ -92,10 +117,14 @@ mod refusal;
 mod sender;
 mod status;
 mod strength;
+mod token_calls;
 mod tokens;
 mod usage;
 mod window;
 
+pub use frames::{
+    framed_mic_read, framed_mic_write, framed_wrap_lead, framed_wrap_open, framed_wrap_write,
+};
 pub use messages::{checksum, checksum_test, decrypt, encrypt, password_key};
 pub use primitives::{hmac_md5, md4, md5, rc4};
 pub use refusal::Refusal;
@@ -132,6 +161,9 @@ pub const WRAP_MESSAGE_OFFSET: usize = 32;
 /// The octets of a Wrap token that are not its message: those before it and
 /// the pad.
 pub const WRAP_OVERHEAD: usize = WRAP_MESSAGE_OFFSET + 1;
+
+/// The octets of a framed MIC token.
+pub const FRAMED_MIC_LEN: usize = 37;
 
 /// The words of a [`Window`].
 pub const WINDOW_WORDS: usize = 4;

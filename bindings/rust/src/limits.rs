@@ -27,7 +27,8 @@ pub const PASSWORD_UNITS_MAX: usize = 256;
 /// The most octets that [`checksum`](crate::checksum),
 /// [`checksum_test`](crate::checksum_test), [`mic_write`](crate::mic_write) and
 /// [`mic_read`](crate::mic_read) take, that [`encrypt`](crate::encrypt) puts in
-/// a message and [`wrap_write`](crate::wrap_write) in a token.
+/// a message and [`wrap_write`](crate::wrap_write) in a token; and with the
+/// frame the same.
 pub const MESSAGE_MAX: usize = 32_768;
 
 /// The shortest message of [`decrypt`](crate::decrypt).
@@ -41,3 +42,11 @@ pub const WRAP_MIN: usize = 33;
 
 /// The longest token of [`wrap_open`](crate::wrap_open).
 pub const WRAP_MAX: usize = 32_801;
+
+/// The shortest framed token that [`framed_wrap_open`](crate::framed_wrap_open)
+/// opens.
+pub const FRAMED_WRAP_MIN: usize = 46;
+
+/// The longest framed token that [`framed_wrap_open`](crate::framed_wrap_open)
+/// opens.
+pub const FRAMED_WRAP_MAX: usize = 32_816;

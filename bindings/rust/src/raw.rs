@@ -1,7 +1,8 @@
 //! The functions of the archive as C sees them, in `include/rc4hmac.h`.
 //!
-//! Each answers a refusal number, the lowest that applies, 0 when done. With a
-//! refusal every digest, key, checksum, length, number and status written is
+//! Each answers a refusal number, 0 when done: the lowest that applies, but from
+//! the readers of framed tokens 2 first, then 9, then the lowest of the others.
+//! With a refusal every digest, key, checksum, length, number and status written is
 //! zero, and no octet of lent data and no word of a window is changed.
 //! `export_strength`, `acceptor` and `sealed` are 0 for no and anything else for
 //! yes; `acceptor` says who the sender is, for the readers the expected sender.
@@ -20,6 +21,63 @@
 //! its octets or words, and one to a length or a number is valid for writing it;
 //! units, words, lengths and numbers are aligned; the areas lent to one call do
 //! not overlap.
+
+/// [`rc4hmac_mic_write`] or [`rc4hmac_framed_mic_write`].
+pub type MicWrite = unsafe extern "C" fn(
+    key: *const [u8; 16],
+    export_strength: u32,
+    acceptor: u32,
+    sequence: u32,
+    data: *const u8,
+    data_len: usize,
+    buf: *mut u8,
+    buf_len: usize,
+    start: usize,
+    written: *mut usize,
+) -> u32;
+
+/// [`rc4hmac_mic_read`] or [`rc4hmac_framed_mic_read`].
+pub type MicRead = unsafe extern "C" fn(
+    key: *const [u8; 16],
+    export_strength: u32,
+    acceptor: u32,
+    data: *const u8,
+    data_len: usize,
+    buf: *const u8,
+    buf_len: usize,
+    start: usize,
+    length: usize,
+    sequence: *mut u32,
+) -> u32;
+
+/// [`rc4hmac_wrap_write`] or [`rc4hmac_framed_wrap_write`].
+pub type WrapWrite = unsafe extern "C" fn(
+    key: *const [u8; 16],
+    export_strength: u32,
+    acceptor: u32,
+    sequence: u32,
+    confounder: *const [u8; 8],
+    sealed: u32,
+    buf: *mut u8,
+    buf_len: usize,
+    start: usize,
+    message_len: usize,
+    written: *mut usize,
+) -> u32;
+
+/// [`rc4hmac_wrap_open`] or [`rc4hmac_framed_wrap_open`].
+pub type WrapOpen = unsafe extern "C" fn(
+    key: *const [u8; 16],
+    export_strength: u32,
+    acceptor: u32,
+    buf: *mut u8,
+    buf_len: usize,
+    start: usize,
+    length: usize,
+    sequence: *mut u32,
+    sealed: *mut u32,
+    message_len: *mut usize,
+) -> u32;
 
 extern "C" {
     /// The MD4 digest of `data`.
@@ -138,6 +196,71 @@ extern "C" {
     /// Opens the Wrap token of `length` octets at `start`, and writes its
     /// sequence number, 1 or 0 for sealed or not, and the message's length.
     pub fn rc4hmac_wrap_open(
+        key: *const [u8; 16],
+        export_strength: u32,
+        acceptor: u32,
+        buf: *mut u8,
+        buf_len: usize,
+        start: usize,
+        length: usize,
+        sequence: *mut u32,
+        sealed: *mut u32,
+        message_len: *mut usize,
+    ) -> u32;
+
+    /// Writes the framed MIC token of `data` to the 37 octets at `start`, and
+    /// writes its length.
+    pub fn rc4hmac_framed_mic_write(
+        key: *const [u8; 16],
+        export_strength: u32,
+        acceptor: u32,
+        sequence: u32,
+        data: *const u8,
+        data_len: usize,
+        buf: *mut u8,
+        buf_len: usize,
+        start: usize,
+        written: *mut usize,
+    ) -> u32;
+
+    /// Whether the `length` octets at `start` are a framed MIC token of `data`;
+    /// writes its sequence number.
+    pub fn rc4hmac_framed_mic_read(
+        key: *const [u8; 16],
+        export_strength: u32,
+        acceptor: u32,
+        data: *const u8,
+        data_len: usize,
+        buf: *const u8,
+        buf_len: usize,
+        start: usize,
+        length: usize,
+        sequence: *mut u32,
+    ) -> u32;
+
+    /// Writes how many octets stand before the token in the frame of a Wrap
+    /// token with a message of `message_len` octets.
+    pub fn rc4hmac_framed_wrap_lead(message_len: usize, lead: *mut usize) -> u32;
+
+    /// Makes a framed Wrap token of the `message_len` octets that stand the lead
+    /// and 32 after `start`, and writes its length.
+    pub fn rc4hmac_framed_wrap_write(
+        key: *const [u8; 16],
+        export_strength: u32,
+        acceptor: u32,
+        sequence: u32,
+        confounder: *const [u8; 8],
+        sealed: u32,
+        buf: *mut u8,
+        buf_len: usize,
+        start: usize,
+        message_len: usize,
+        written: *mut usize,
+    ) -> u32;
+
+    /// Opens the framed Wrap token of `length` octets at `start`, and writes its
+    /// sequence number, 1 or 0 for sealed or not, and the message's length.
+    pub fn rc4hmac_framed_wrap_open(
         key: *const [u8; 16],
         export_strength: u32,
         acceptor: u32,

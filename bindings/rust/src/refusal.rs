@@ -23,6 +23,10 @@ pub enum Refusal {
     Checksum,
     /// The last octet of a Wrap token, after opening, is not 01.
     Pad,
+    /// The region is not one whole frame: it has another tag or mechanism, or a
+    /// length that is not in the shortest form or does not end where the region
+    /// ends.
+    Frame,
     /// A number that this binding has no name for. The archive of the same
     /// version answers none; a later one might.
     Unnamed(u32),
@@ -39,6 +43,7 @@ impl Refusal {
             Refusal::Direction => 5,
             Refusal::Checksum => 6,
             Refusal::Pad => 7,
+            Refusal::Frame => 9,
             Refusal::Unnamed(number) => number,
         }
     }
@@ -54,6 +59,7 @@ impl Refusal {
             5 => Err(Refusal::Direction),
             6 => Err(Refusal::Checksum),
             7 => Err(Refusal::Pad),
+            9 => Err(Refusal::Frame),
             _ => Err(Refusal::Unnamed(number)),
         }
     }
@@ -69,6 +75,7 @@ impl fmt::Display for Refusal {
             Refusal::Direction => f.write_str("the direction is not the expected sender's"),
             Refusal::Checksum => f.write_str("the checksum differs"),
             Refusal::Pad => f.write_str("the pad octet is not 01"),
+            Refusal::Frame => f.write_str("the region is not one whole frame"),
             Refusal::Unnamed(number) => write!(f, "refusal number {number}"),
         }
     }
@@ -95,6 +102,7 @@ mod tests {
             (5, Refusal::Direction),
             (6, Refusal::Checksum),
             (7, Refusal::Pad),
+            (9, Refusal::Frame),
         ] {
             assert_eq!(Refusal::check(number), Err(refusal));
             assert_eq!(refusal.number(), number);
@@ -103,7 +111,7 @@ mod tests {
 
     #[test]
     fn a_number_without_a_name_is_kept_as_it_is() {
-        for number in [8, 9, 255, 256, u32::MAX] {
+        for number in [8, 10, 255, 256, u32::MAX] {
             let refusal = Refusal::check(number).unwrap_err();
             assert_eq!(refusal, Refusal::Unnamed(number));
             assert_eq!(refusal.number(), number);

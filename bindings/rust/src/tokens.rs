@@ -2,8 +2,8 @@
 
 use std::fmt;
 
-use crate::lent::apart_from;
-use crate::{raw, Refusal, Sender, Strength, CONFOUNDER_LEN, KEY_LEN};
+use crate::token_calls::TOKENS;
+use crate::{Refusal, Sender, Strength, CONFOUNDER_LEN, KEY_LEN};
 
 /// What all tokens of one sender share.
 ///
@@ -41,7 +41,8 @@ impl fmt::Debug for Context {
     }
 }
 
-/// What [`wrap_open`] answers of a token.
+/// What [`wrap_open`] and [`framed_wrap_open`](crate::framed_wrap_open) answer of
+/// a token.
 #[derive(Clone, Copy, Debug, PartialEq, Eq, Hash)]
 pub struct Opened {
     /// The sequence number.
@@ -83,25 +84,7 @@ pub fn mic_write(
     buf: &mut [u8],
     start: usize,
 ) -> Result<usize, Refusal> {
-    let key = apart_from(&[data], &context.key);
-    let mut written = 0;
-    // SAFETY: `key` has KEY_LEN octets, `data` is a slice, and they share none;
-    // `buf` and `written` are borrowed alone.
-    let answer = unsafe {
-        raw::rc4hmac_mic_write(
-            key.as_ptr().cast(),
-            context.strength.export(),
-            context.sender.acceptor(),
-            sequence,
-            data.as_ptr(),
-            data.len(),
-            buf.as_mut_ptr(),
-            buf.len(),
-            start,
-            &mut written,
-        )
-    };
-    Refusal::check(answer).map(|()| written)
+    TOKENS.mic_write(context, sequence, data, buf, start)
 }
 
 /// Whether the `length` octets at `start` are a MIC token of `data`, and its
@@ -146,26 +129,7 @@ pub fn mic_read(
     start: usize,
     length: usize,
 ) -> Result<u32, Refusal> {
-    let key = apart_from(&[data, buf], &context.key);
-    let data = apart_from(&[buf], data);
-    let mut sequence = 0;
-    // SAFETY: `key` has KEY_LEN octets, the others are slices, and no two of
-    // them share an octet; `sequence` is borrowed alone.
-    let answer = unsafe {
-        raw::rc4hmac_mic_read(
-            key.as_ptr().cast(),
-            context.strength.export(),
-            context.sender.acceptor(),
-            data.as_ptr(),
-            data.len(),
-            buf.as_ptr(),
-            buf.len(),
-            start,
-            length,
-            &mut sequence,
-        )
-    };
-    Refusal::check(answer).map(|()| sequence)
+    TOKENS.mic_read(context, data, buf, start, length)
 }
 
 /// Writes a Wrap token in place, sealed (encrypted) or not, and answers its
@@ -219,26 +183,15 @@ pub fn wrap_write(
     start: usize,
     message_len: usize,
 ) -> Result<usize, Refusal> {
-    let key = apart_from(&[confounder], &context.key);
-    let mut written = 0;
-    // SAFETY: `key` has KEY_LEN octets and shares none with `confounder`; `buf`
-    // and `written` are borrowed alone.
-    let answer = unsafe {
-        raw::rc4hmac_wrap_write(
-            key.as_ptr().cast(),
-            context.strength.export(),
-            context.sender.acceptor(),
-            sequence,
-            confounder,
-            sealed.into(),
-            buf.as_mut_ptr(),
-            buf.len(),
-            start,
-            message_len,
-            &mut written,
-        )
-    };
-    Refusal::check(answer).map(|()| written)
+    TOKENS.wrap_write(
+        context,
+        sequence,
+        confounder,
+        sealed,
+        buf,
+        start,
+        message_len,
+    )
 }
 
 /// Opens a Wrap token in place and answers what it tells of its message.
@@ -286,26 +239,5 @@ pub fn wrap_open(
     start: usize,
     length: usize,
 ) -> Result<Opened, Refusal> {
-    let (mut sequence, mut sealed, mut message_len) = (0, 0, 0);
-    // SAFETY: `buf` and the three numbers are borrowed alone, apart from the
-    // key.
-    let answer = unsafe {
-        raw::rc4hmac_wrap_open(
-            &context.key,
-            context.strength.export(),
-            context.sender.acceptor(),
-            buf.as_mut_ptr(),
-            buf.len(),
-            start,
-            length,
-            &mut sequence,
-            &mut sealed,
-            &mut message_len,
-        )
-    };
-    Refusal::check(answer).map(|()| Opened {
-        sequence,
-        sealed: sealed != 0,
-        message_len,
-    })
+    TOKENS.wrap_open(context, buf, start, length)
 }

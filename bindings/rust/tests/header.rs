@@ -30,6 +30,7 @@ fn refusals() -> Vec<(&'static str, usize)> {
         ("REFUSED_DIRECTION", number(Refusal::Direction)),
         ("REFUSED_CHECKSUM", number(Refusal::Checksum)),
         ("REFUSED_PAD", number(Refusal::Pad)),
+        ("REFUSED_FRAME", number(Refusal::Frame)),
     ]
 }
 
@@ -68,6 +69,9 @@ fn lengths() -> Vec<(&'static str, usize)> {
         ("WRAP_MESSAGE_OFFSET", rc4hmac::WRAP_MESSAGE_OFFSET),
         ("WRAP_MIN", limits::WRAP_MIN),
         ("WRAP_MAX", limits::WRAP_MAX),
+        ("FRAMED_MIC_LEN", rc4hmac::FRAMED_MIC_LEN),
+        ("FRAMED_WRAP_MIN", limits::FRAMED_WRAP_MIN),
+        ("FRAMED_WRAP_MAX", limits::FRAMED_WRAP_MAX),
         ("WINDOW_WORDS", rc4hmac::WINDOW_WORDS),
         ("WINDOW_MARKS", rc4hmac::WINDOW_MARKS),
     ]

@@ -1,6 +1,6 @@
 //! The second program, and then the library, on tokens that MIT krb5 and Heimdal
-//! wrote: each is opened, written again octet for octet, and refused where it
-//! should be.
+//! wrote, whole in their frames and out of them: each is opened, written again
+//! octet for octet, and refused where it should be.
 
 mod calls;
 mod programs;
@@ -8,46 +8,27 @@ mod reference;
 mod vectors;
 
 use calls::context;
-use programs::{Program, LIBRARY, REFERENCE};
-use rc4hmac::{Opened, Refusal, Window};
+use programs::{Program, FRAMED_LIBRARY, FRAMED_REFERENCE, LIBRARY, REFERENCE};
+use rc4hmac::{Context, Opened, Refusal, Window};
 use reference::clerk::{DUPLICATE, GAP, IN_ORDER};
-use reference::{must_be_octets, Clerk, Reading, TokenTerms, Wrap, FRONT, MIC, PAD};
+use reference::{must_be_octets, read_lead, Clerk, Reading, TokenTerms, Wrap, PAD};
 use vectors::implementations::{heimdal, mit_krb5, Kind, Token};
 
 const KINDS: [Kind; 3] = [Kind::Mic, Kind::Sealed, Kind::Clear];
 
-/// The object identifier of the mechanism, with its tag and its length.
-const MECHANISM: [u8; 11] = [
-    0x06, 0x09, 0x2a, 0x86, 0x48, 0x86, 0xf7, 0x12, 0x01, 0x02, 0x02,
-];
-
-/// A token of the files, out of its frame.
+/// A token of the files, with its frame or out of it.
 struct Sent {
     terms: TokenTerms,
     kind: Kind,
     sequence: u32,
     message: Vec<u8>,
-    token: Vec<u8>,
-}
-
-/// The frame is 60, the length of all that follows, which DER has in one octet
-/// or in as many as the first one counts, and the mechanism.
-fn unframed(framed: &[u8]) -> Vec<u8> {
-    assert_eq!(framed[0], 0x60);
-    let (len, rest) = match framed[1] {
-        len @ 0..0x80 => (usize::from(len), &framed[2..]),
-        form => {
-            let (len, rest) = framed[2..].split_at(usize::from(form - 0x80));
-            let add = |sum, &octet| sum << 8 | usize::from(octet);
-            (len.iter().fold(0, add), rest)
-        }
-    };
-    assert_eq!(rest.len(), len);
-    rest.strip_prefix(&MECHANISM).unwrap().to_vec()
+    /// How many octets stand before the token.
+    lead: usize,
+    octets: Vec<u8>,
 }
 
 impl Sent {
-    fn new(token: Token) -> Sent {
+    fn framed(token: Token) -> Sent {
         Sent {
             terms: TokenTerms {
                 key: token.key,
@@ -57,13 +38,23 @@ impl Sent {
             kind: token.kind,
             sequence: token.sequence,
             message: token.message,
-            token: unframed(&token.framed),
+            lead: read_lead(&token.framed).unwrap(),
+            octets: token.framed,
         }
     }
 
-    fn all() -> Vec<Sent> {
+    fn unframed(token: Token) -> Sent {
+        let framed = Sent::framed(token);
+        Sent {
+            lead: 0,
+            octets: framed.octets[framed.lead..].to_vec(),
+            ..framed
+        }
+    }
+
+    fn all(sent: fn(Token) -> Sent) -> Vec<Sent> {
         let tokens = mit_krb5().into_iter().chain(heimdal());
-        tokens.map(Sent::new).collect()
+        tokens.map(sent).collect()
     }
 
     /// For messages of a test.
@@ -81,11 +72,17 @@ impl Sent {
         (0, self.sequence, (self.kind == Kind::Sealed).into(), len)
     }
 
+    /// Where the message stands: the pad is the last octet.
+    fn message_start(&self) -> usize {
+        self.octets.len() - 1 - self.message.len()
+    }
+
     /// What is in the token, the confounder as it came out of it.
     fn wrap(&self, opened: &[u8]) -> Wrap {
+        let (before, _) = opened.split_at(self.message_start());
         Wrap {
             sequence: self.sequence,
-            confounder: opened[24..FRONT].try_into().unwrap(),
+            confounder: *before.last_chunk().unwrap(),
             sealed: self.kind == Kind::Sealed,
             message: self.message.clone(),
         }
@@ -96,19 +93,19 @@ impl Sent {
     fn changed(&self) -> Vec<(Vec<u8>, Vec<u8>)> {
         let mut changed = Vec::new();
         if self.kind == Kind::Mic && self.message.is_empty() {
-            changed.push((vec![0], self.token.clone()));
+            changed.push((vec![0], self.octets.clone()));
             return changed;
         }
         let places = match self.kind {
             Kind::Mic => 0..self.message.len(),
-            _ => 24..self.token.len(),
+            _ => self.lead + 24..self.octets.len(),
         };
         for at in [
             places.start,
             (places.start + places.end) / 2,
             places.end - 1,
         ] {
-            let (mut data, mut token) = (self.message.clone(), self.token.clone());
+            let (mut data, mut token) = (self.message.clone(), self.octets.clone());
             match self.kind {
                 Kind::Mic => data[at] ^= 0x01,
                 _ => token[at] ^= 0x01,
@@ -127,29 +124,31 @@ impl Program {
         }
     }
 
-    fn check_opened_and_written_again(&self) {
-        for sent in Sent::all() {
-            let (terms, name) = (&sent.terms, sent.name());
-            let opened = self.read(sent.kind, terms, &sent.message, &sent.token);
+    fn check_opened_and_written_again(&self, sent: fn(Token) -> Sent) {
+        for sent in Sent::all(sent) {
+            let (terms, name, octets) = (&sent.terms, sent.name(), &sent.octets);
+            let opened = self.read(sent.kind, terms, &sent.message, octets);
             assert_eq!(opened.answer(), sent.answer(), "{name:?}");
             let written = if sent.kind == Kind::Mic {
-                must_be_octets(&opened.buf, &sent.token, name);
-                (self.mic_write)(terms, sent.sequence, &sent.message, &[0; MIC], 0)
+                must_be_octets(&opened.buf, octets, name);
+                let place = vec![0; octets.len()];
+                (self.mic_write)(terms, sent.sequence, &sent.message, &place, 0)
             } else {
-                must_be_octets(&opened.buf[..24], &sent.token[..24], name);
+                let (front, kept) = (sent.message_start(), sent.lead + 24);
+                must_be_octets(&opened.buf[..kept], &octets[..kept], name);
                 let plain = [&sent.message[..], &[PAD]].concat();
-                must_be_octets(&opened.buf[FRONT..], &plain, name);
-                let place = [&[0; FRONT], &sent.message[..], &[0]].concat();
+                must_be_octets(&opened.buf[front..], &plain, name);
+                let place = [&vec![0; front], &sent.message[..], &[0]].concat();
                 let wrap = sent.wrap(&opened.buf);
                 (self.wrap_write)(terms, &wrap, &place, 0, sent.message.len())
             };
-            assert_eq!((written.number, written.len), (0, sent.token.len()));
-            must_be_octets(&written.buf, &sent.token, name);
+            assert_eq!((written.number, written.len), (0, octets.len()));
+            must_be_octets(&written.buf, octets, name);
         }
     }
 
-    fn check_refused(&self) {
-        for sent in Sent::all() {
+    fn check_refused(&self, sent: fn(Token) -> Sent) {
+        for sent in Sent::all(sent) {
             let (export, acceptor) = (!sent.terms.export, !sent.terms.acceptor);
             for other in [
                 TokenTerms {
@@ -161,9 +160,9 @@ impl Program {
                     ..sent.terms
                 },
             ] {
-                let reading = self.read(sent.kind, &other, &sent.message, &sent.token);
+                let reading = self.read(sent.kind, &other, &sent.message, &sent.octets);
                 reading.must_be(
-                    &Reading::refused(5, &sent.token),
+                    &Reading::refused(5, &sent.octets),
                     (sent.name(), other.name()),
                 );
             }
@@ -212,62 +211,125 @@ fn the_files_hold_tokens_of_every_sort() {
 
 #[test]
 fn reference_opens_the_tokens_and_writes_them_again() {
-    REFERENCE.check_opened_and_written_again();
+    REFERENCE.check_opened_and_written_again(Sent::unframed);
+}
+
+#[test]
+fn reference_opens_the_frames_and_writes_them_again() {
+    FRAMED_REFERENCE.check_opened_and_written_again(Sent::framed);
 }
 
 #[test]
 fn reference_refuses_another_sender_another_strength_and_changed_octets() {
-    REFERENCE.check_refused();
+    REFERENCE.check_refused(Sent::unframed);
+    FRAMED_REFERENCE.check_refused(Sent::framed);
 }
 
 #[test]
 fn library_opens_the_tokens_and_writes_them_again() {
-    LIBRARY.check_opened_and_written_again();
+    LIBRARY.check_opened_and_written_again(Sent::unframed);
+}
+
+#[test]
+fn library_opens_the_frames_and_writes_them_again() {
+    FRAMED_LIBRARY.check_opened_and_written_again(Sent::framed);
 }
 
 #[test]
 fn library_refuses_another_sender_another_strength_and_changed_octets() {
-    LIBRARY.check_refused();
+    LIBRARY.check_refused(Sent::unframed);
+    FRAMED_LIBRARY.check_refused(Sent::framed);
+}
+
+/// A token in its frame is no token, and a token without it no frame.
+#[test]
+fn library_takes_each_form_by_its_own_calls_alone() {
+    for (library, sent, number) in [
+        (LIBRARY, Sent::framed as fn(Token) -> Sent, 4),
+        (FRAMED_LIBRARY, Sent::unframed, 9),
+    ] {
+        for sent in Sent::all(sent) {
+            let reading = library.read(sent.kind, &sent.terms, &sent.message, &sent.octets);
+            // For the first 24 octets are no MIC, and 32,816 are too many.
+            let by_length = match sent.kind {
+                Kind::Mic => sent.octets.len() != 24,
+                _ => sent.octets.len() > 32_801,
+            };
+            let number = if number == 4 && by_length { 1 } else { number };
+            reading.must_be(&Reading::refused(number, &sent.octets), sent.name());
+        }
+    }
+}
+
+type MicWrite = fn(&Context, u32, &[u8], &mut [u8], usize) -> Result<usize, Refusal>;
+type MicRead = fn(&Context, &[u8], &[u8], usize, usize) -> Result<u32, Refusal>;
+type WrapWrite =
+    fn(&Context, u32, &[u8; 8], bool, &mut [u8], usize, usize) -> Result<usize, Refusal>;
+type WrapOpen = fn(&Context, &mut [u8], usize, usize) -> Result<Opened, Refusal>;
+
+/// The safe functions of one form.
+struct Safe {
+    mic_write: MicWrite,
+    mic_read: MicRead,
+    wrap_write: WrapWrite,
+    wrap_open: WrapOpen,
+}
+
+impl Safe {
+    fn check_opened_and_written_again(&self, sent: fn(Token) -> Sent) {
+        for sent in Sent::all(sent) {
+            let (context, sequence) = (context(&sent.terms), sent.sequence);
+            let (message, mut buf) = (&sent.message, sent.octets.clone());
+            let length = buf.len();
+            let written = if sent.kind == Kind::Mic {
+                let read = (self.mic_read)(&context, message, &buf, 0, length);
+                assert_eq!(read, Ok(sequence));
+                buf.fill(0);
+                (self.mic_write)(&context, sequence, message, &mut buf, 0)
+            } else {
+                let (sealed, len) = (sent.kind == Kind::Sealed, message.len());
+                let opened = Opened {
+                    sequence,
+                    sealed,
+                    message_len: len,
+                };
+                let answer = (self.wrap_open)(&context, &mut buf, 0, length);
+                assert_eq!(answer, Ok(opened));
+                let confounder = sent.wrap(&buf).confounder;
+                buf[..sent.message_start()].fill(0);
+                (self.wrap_write)(&context, sequence, &confounder, sealed, &mut buf, 0, len)
+            };
+            assert_eq!(written, Ok(length));
+            must_be_octets(&buf, &sent.octets, sent.name());
+        }
+    }
 }
 
 #[test]
 fn the_safe_functions_open_the_tokens_and_write_them_again() {
-    for sent in Sent::all() {
-        let (context, sequence) = (context(&sent.terms), sent.sequence);
-        let (message, mut buf) = (&sent.message, sent.token.clone());
-        if sent.kind == Kind::Mic {
-            assert_eq!(
-                rc4hmac::mic_read(&context, message, &buf, 0, MIC),
-                Ok(sequence)
-            );
-            let mut buf = [0; MIC];
-            let written = rc4hmac::mic_write(&context, sequence, message, &mut buf, 0);
-            assert_eq!(written, Ok(MIC));
-            must_be_octets(&buf, &sent.token, sent.name());
-            continue;
-        }
-        let (length, sealed) = (buf.len(), sent.kind == Kind::Sealed);
-        let opened = Opened {
-            sequence,
-            sealed,
-            message_len: message.len(),
-        };
-        assert_eq!(
-            rc4hmac::wrap_open(&context, &mut buf, 0, length),
-            Ok(opened)
-        );
-        let confounder = sent.wrap(&buf).confounder;
-        let len = message.len();
-        let written =
-            rc4hmac::wrap_write(&context, sequence, &confounder, sealed, &mut buf, 0, len);
-        assert_eq!(written, Ok(length));
-        must_be_octets(&buf, &sent.token, sent.name());
-    }
+    let safe = Safe {
+        mic_write: rc4hmac::mic_write,
+        mic_read: rc4hmac::mic_read,
+        wrap_write: rc4hmac::wrap_write,
+        wrap_open: rc4hmac::wrap_open,
+    };
+    safe.check_opened_and_written_again(Sent::unframed);
+}
+
+#[test]
+fn the_safe_functions_open_the_frames_and_write_them_again() {
+    let safe = Safe {
+        mic_write: rc4hmac::framed_mic_write,
+        mic_read: rc4hmac::framed_mic_read,
+        wrap_write: rc4hmac::framed_wrap_write,
+        wrap_open: rc4hmac::framed_wrap_open,
+    };
+    safe.check_opened_and_written_again(Sent::framed);
 }
 
 /// The status of the number that a window gives the token.
 fn receive(window: &mut Window, sent: &Sent) -> Result<u32, Refusal> {
-    let (context, mut buf) = (context(&sent.terms), sent.token.clone());
+    let (context, mut buf) = (context(&sent.terms), sent.octets.clone());
     let length = buf.len();
     let status = match sent.kind {
         Kind::Mic => {
@@ -283,7 +345,7 @@ fn receive(window: &mut Window, sent: &Sent) -> Result<u32, Refusal> {
 /// One sender's tokens of these kinds in the order of the file, and then once
 /// more.
 fn check_billed(tokens: Vec<Token>, export: bool, acceptor: bool, kinds: &[Kind]) -> Vec<u32> {
-    let mut session: Vec<Sent> = tokens.into_iter().map(Sent::new).collect();
+    let mut session: Vec<Sent> = tokens.into_iter().map(Sent::unframed).collect();
     session.retain(|sent| (sent.terms.export, sent.terms.acceptor) == (export, acceptor));
     session.retain(|sent| kinds.contains(&sent.kind));
     let first = session[0].sequence;

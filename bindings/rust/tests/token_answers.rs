@@ -1,12 +1,14 @@
 //! The numbers that go in and out of the token calls: any number but 0 is yes,
-//! sealed comes out as 1 or 0, and a refusal writes zeros over what was there.
+//! with the frame too, sealed comes out as 1 or 0, and a refusal writes zeros over what was there.
 
 mod calls;
+mod programs;
 mod reference;
 
 use calls::Flags;
+use programs::FORMS;
 use rc4hmac::raw;
-use reference::{must_be_octets, Inputs, TokenTerms, Wrap, FRONT, PAD};
+use reference::{must_be_octets, Inputs, TokenTerms, Wrap, PAD};
 
 const YES: [u32; 12] = [
     1,
@@ -255,8 +257,9 @@ fn sealed_comes_out_as_1_or_0_whatever_was_there() {
     }
 }
 
-/// Each of the two flags by itself and both, for both values of the other.
-fn flags() -> Vec<(Flags, bool, bool)> {
+/// Each of the two flags by itself and both, for both values of the other, and
+/// the terms that they stand for.
+fn flags(key: [u8; 16]) -> Vec<(Flags, TokenTerms)> {
     let mut flags = Vec::new();
     for number in YES.into_iter().chain([0]) {
         for other in [0, 1, number] {
@@ -267,7 +270,12 @@ fn flags() -> Vec<(Flags, bool, bool)> {
                     acceptor,
                     sealed,
                 };
-                flags.push((arguments, export_strength != 0, acceptor != 0));
+                let terms = TokenTerms {
+                    key,
+                    export: export_strength != 0,
+                    acceptor: acceptor != 0,
+                };
+                flags.push((arguments, terms));
             }
         }
     }
@@ -278,18 +286,16 @@ fn flags() -> Vec<(Flags, bool, bool)> {
 fn any_number_but_0_is_yes_for_a_mic() {
     let mut inputs = Inputs::new(315);
     let (key, data) = (inputs.array(), inputs.octets(40));
-    for (flags, export, acceptor) in flags() {
-        let terms = TokenTerms {
-            key,
-            export,
-            acceptor,
-        };
-        let token = terms.mic(9, &data);
-        let written = calls::mic_write_with(flags, &key, 9, &data, &[0; 24], 0);
-        assert_eq!((written.number, written.len), (0, 24), "{flags:?}");
-        must_be_octets(&written.buf, &token, flags);
-        let read = calls::mic_read_with(flags, &key, &data, &token, 0, 24);
-        assert_eq!(read.answer(), (0, 9, 0, 0), "{flags:?}");
+    for form in FORMS {
+        for (flags, terms) in flags(key) {
+            let (calls, token) = (&form.calls, form.form(&terms.mic(9, &data)));
+            let (len, buf) = (token.len(), vec![0; token.len()]);
+            let written = calls.mic_write_with(flags, &key, 9, &data, &buf, 0);
+            assert_eq!((written.number, written.len), (0, len), "{flags:?}");
+            must_be_octets(&written.buf, &token, flags);
+            let read = calls.mic_read_with(flags, &key, &data, &token, 0, len);
+            assert_eq!(read.answer(), (0, 9, 0, 0), "{flags:?}");
+        }
     }
 }
 
@@ -297,22 +303,20 @@ fn any_number_but_0_is_yes_for_a_mic() {
 fn any_number_but_0_is_yes_for_a_wrap_token() {
     let mut inputs = Inputs::new(316);
     let key = inputs.array();
-    for (flags, export, acceptor) in flags() {
-        let terms = TokenTerms {
-            key,
-            export,
-            acceptor,
-        };
-        let wrap = Wrap::new(&mut inputs, flags.sealed != 0, 20);
-        let token = terms.wrap(&wrap);
-        let buf = [&[0; FRONT], &wrap.message[..], &[0]].concat();
-        let written = calls::wrap_write_with(flags, &key, &wrap, &buf, 0, 20);
-        assert_eq!((written.number, written.len), (0, 53), "{flags:?}");
-        must_be_octets(&written.buf, &token, flags);
+    for form in FORMS {
+        for (flags, terms) in flags(key) {
+            let wrap = Wrap::new(&mut inputs, flags.sealed != 0, 20);
+            let (calls, token) = (&form.calls, form.form(&terms.wrap(&wrap)));
+            let (len, front) = (token.len(), form.front(20));
+            let buf = [&vec![0; front], &wrap.message[..], &[0]].concat();
+            let written = calls.wrap_write_with(flags, &key, &wrap, &buf, 0, 20);
+            assert_eq!((written.number, written.len), (0, len), "{flags:?}");
+            must_be_octets(&written.buf, &token, flags);
 
-        let opened = calls::wrap_open_with(flags, &key, &token, 0, 53);
-        let answer = (0, wrap.sequence, u32::from(wrap.sealed), 20);
-        assert_eq!(opened.answer(), answer, "{flags:?}");
-        must_be_octets(&opened.buf[24..], &wrap.plain(PAD), flags);
+            let opened = calls.wrap_open_with(flags, &key, &token, 0, len);
+            let answer = (0, wrap.sequence, u32::from(wrap.sealed), 20);
+            assert_eq!(opened.answer(), answer, "{flags:?}");
+            must_be_octets(&opened.buf[front - 8..], &wrap.plain(PAD), flags);
+        }
     }
 }

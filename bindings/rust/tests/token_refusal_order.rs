@@ -5,7 +5,7 @@
 mod calls;
 mod reference;
 
-use reference::{fault_sets, first, Inputs, Outcome, Reading, TokenTerms, Wrap, PAD};
+use reference::{fault_sets, first, Faults, Inputs, Outcome, Reading, TokenTerms, Wrap, PAD};
 
 /// Starts outside a buffer of 40,000 octets; with the lengths here some sums
 /// come out small if they wrap.
@@ -42,50 +42,6 @@ fn the_writers_are_refused_for_length_then_region() {
     }
 }
 
-/// Faults of a token, in the order of their refusals.
-#[derive(Clone, Copy, Debug)]
-struct Faults {
-    header: bool,
-    direction: bool,
-    checksum: bool,
-    pad: bool,
-}
-
-impl Faults {
-    /// A checksum, which is made wrong if it is to be.
-    fn checksum(&self, mut sgn_cksum: [u8; 8]) -> [u8; 8] {
-        sgn_cksum[6] ^= u8::from(self.checksum) << 5;
-        sgn_cksum
-    }
-
-    /// The terms that the token is written under.
-    fn writer(&self, reader: &TokenTerms) -> TokenTerms {
-        TokenTerms {
-            acceptor: reader.acceptor != self.direction,
-            ..*reader
-        }
-    }
-
-    /// Under a wrong checksum SND_SEQ and body come out right, so that each
-    /// fault is there or not whatever the others are.
-    fn wrap(&self, reader: &TokenTerms, wrap: &Wrap) -> Vec<u8> {
-        let last = if self.pad { 0x02 } else { PAD };
-        let writer = self.writer(reader);
-        let sgn_cksum = self.checksum(writer.wrap_cksum(wrap, last));
-        let mut token = writer.wrap_with(wrap, last, &sgn_cksum);
-        token[7] ^= u8::from(self.header);
-        token
-    }
-
-    fn mic(&self, reader: &TokenTerms, data: &[u8]) -> Vec<u8> {
-        let writer = self.writer(reader);
-        let sgn_cksum = self.checksum(writer.mic_cksum(data));
-        let mut token = writer.mic_with(6, &sgn_cksum);
-        token[7] ^= u8::from(self.header);
-        token
-    }
-}
-
 #[test]
 fn wrap_open_is_refused_in_the_order_of_the_numbers() {
     let mut inputs = Inputs::new(302);
@@ -99,12 +55,7 @@ fn wrap_open_is_refused_in_the_order_of_the_numbers() {
             for sealed in [false, true] {
                 for set @ [length, region, header, direction, checksum, pad] in fault_sets() {
                     let wrap = Wrap::new(&mut inputs, sealed, 7);
-                    let faults = Faults {
-                        header,
-                        direction,
-                        checksum,
-                        pad,
-                    };
+                    let faults = Faults::new([header, direction, checksum, pad]);
                     buf[5..45].copy_from_slice(&faults.wrap(&terms, &wrap));
                     let start = if region { wrong_start } else { 5 };
                     let len = if length { wrong_len } else { 40 };
@@ -130,12 +81,7 @@ fn mic_read_is_refused_in_the_order_of_the_numbers() {
         for (wrong_start, wrong_len) in WRONG_STARTS.into_iter().zip([0, 23, 25, 33, usize::MAX]) {
             for set @ [length, long, region, header, direction, checksum] in fault_sets() {
                 let data = &data[..if long { 32_769 } else { 30 }];
-                let faults = Faults {
-                    header,
-                    direction,
-                    checksum,
-                    pad: false,
-                };
+                let faults = Faults::new([header, direction, checksum, false]);
                 buf[5..29].copy_from_slice(&faults.mic(&terms, data));
                 let start = if region { wrong_start } else { 5 };
                 let len = if length { wrong_len } else { 24 };

@@ -26,3 +26,10 @@ pub fn empty_pointers() -> [*mut u8; 4] {
         ptr::without_provenance_mut(usize::MAX),
     ]
 }
+
+/// The octets at one side of a mapping.
+pub fn walled<'a>(side: Side, map: &'a mut Walled, octets: &[u8]) -> &'a mut [u8] {
+    let area = side(map, octets.len());
+    area.copy_from_slice(octets);
+    area
+}

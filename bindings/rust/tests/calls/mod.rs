@@ -4,16 +4,14 @@
 // Each test file uses its own share of this module.
 #![allow(dead_code, unused_imports)]
 
+mod frames;
 mod tokens;
 mod window;
 
 use rc4hmac::raw;
 
-pub use tokens::{
-    context, mic_read, mic_read_in_place, mic_read_with, mic_write, mic_write_in_place,
-    mic_write_with, wrap_open, wrap_open_in_place, wrap_open_with, wrap_write, wrap_write_in_place,
-    wrap_write_with, Flags,
-};
+pub use frames::{framed_wrap_lead, FRAMED};
+pub use tokens::{context, mic_read, mic_write, wrap_open, wrap_write, Flags, TokenCalls, TOKENS};
 pub use window::{
     receive_mic, receive_mic_in_place, receive_wrap, receive_wrap_in_place, window_bill,
     window_missing, window_new,

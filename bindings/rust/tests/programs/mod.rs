@@ -1,11 +1,15 @@
-//! The token calls of the second program and of the library, for what is asked
-//! of both.
+//! The token calls of the second program and of the library, without the frame
+//! and in it, for what is asked of both.
 
 // Each test file uses its own share of this module.
-#![allow(dead_code)]
+#![allow(dead_code, unused_imports)]
+
+mod forms;
+
+pub use forms::{framed_wrap_lead, Form, FORMS, FRAMED, TOKENS};
 
 use crate::calls;
-use crate::reference::{token_outcomes, Outcome, Reading, TokenTerms, Wrap};
+use crate::reference::{frame_outcomes, token_outcomes, Outcome, Reading, TokenTerms, Wrap};
 
 pub struct Program {
     pub mic_write: fn(&TokenTerms, u32, &[u8], &[u8], usize) -> Outcome,
@@ -26,4 +30,24 @@ pub const LIBRARY: Program = Program {
     mic_read: calls::mic_read,
     wrap_write: calls::wrap_write,
     wrap_open: calls::wrap_open,
+};
+
+pub const FRAMED_REFERENCE: Program = Program {
+    mic_write: frame_outcomes::mic_write,
+    mic_read: frame_outcomes::mic_read,
+    wrap_write: frame_outcomes::wrap_write,
+    wrap_open: frame_outcomes::wrap_open,
+};
+
+pub const FRAMED_LIBRARY: Program = Program {
+    mic_write: |terms, sequence, data, buf, start| {
+        calls::FRAMED.mic_write(terms, sequence, data, buf, start)
+    },
+    mic_read: |terms, data, buf, start, length| {
+        calls::FRAMED.mic_read(terms, data, buf, start, length)
+    },
+    wrap_write: |terms, wrap, buf, start, len| {
+        calls::FRAMED.wrap_write(terms, wrap, buf, start, len)
+    },
+    wrap_open: |terms, buf, start, length| calls::FRAMED.wrap_open(terms, buf, start, length),
 };

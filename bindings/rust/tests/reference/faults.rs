@@ -1,4 +1,7 @@
-//! Sets of faults in one call, and the refusal number that they are given.
+//! Sets of faults in one call, the refusal number that they are given, and tokens
+//! that have them.
+
+use super::token::{TokenTerms, Wrap, PAD};
 
 /// Every set of `N` faults, each there or not.
 pub fn fault_sets<const N: usize>() -> impl Iterator<Item = [bool; N]> {
@@ -11,4 +14,59 @@ pub fn first<const N: usize>(numbers: [u32; N], faults: [bool; N]) -> u32 {
     numbers
         .find(|(_, there)| *there)
         .map_or(0, |(number, _)| number)
+}
+
+/// Faults of a token, in the order of their refusals.
+#[derive(Clone, Copy, Debug)]
+pub struct Faults {
+    header: bool,
+    direction: bool,
+    checksum: bool,
+    pad: bool,
+}
+
+impl Faults {
+    /// In the same order.
+    pub fn new([header, direction, checksum, pad]: [bool; 4]) -> Faults {
+        Faults {
+            header,
+            direction,
+            checksum,
+            pad,
+        }
+    }
+
+    /// A checksum, which is made wrong if it is to be.
+    fn checksum(&self, mut sgn_cksum: [u8; 8]) -> [u8; 8] {
+        sgn_cksum[6] ^= u8::from(self.checksum) << 5;
+        sgn_cksum
+    }
+
+    /// The terms that the token is written under.
+    fn writer(&self, reader: &TokenTerms) -> TokenTerms {
+        TokenTerms {
+            acceptor: reader.acceptor != self.direction,
+            ..*reader
+        }
+    }
+
+    /// Under a wrong checksum SND_SEQ and body come out right, so that each
+    /// fault is there or not whatever the others are.
+    pub fn wrap(&self, reader: &TokenTerms, wrap: &Wrap) -> Vec<u8> {
+        let last = if self.pad { 0x02 } else { PAD };
+        let writer = self.writer(reader);
+        let sgn_cksum = self.checksum(writer.wrap_cksum(wrap, last));
+        let mut token = writer.wrap_with(wrap, last, &sgn_cksum);
+        token[7] ^= u8::from(self.header);
+        token
+    }
+
+    /// With the number 6.
+    pub fn mic(&self, reader: &TokenTerms, data: &[u8]) -> Vec<u8> {
+        let writer = self.writer(reader);
+        let sgn_cksum = self.checksum(writer.mic_cksum(data));
+        let mut token = writer.mic_with(6, &sgn_cksum);
+        token[7] ^= u8::from(self.header);
+        token
+    }
 }

@@ -1,7 +1,7 @@
 //! The second program: MD4, MD5, HMAC-MD5, RC4 and the keys, checksums,
-//! encrypted messages and tokens of RFC 4757 written from their published texts
-//! alone, and a clerk for receive windows, for the library to be compared with,
-//! and the inputs for that.
+//! encrypted messages and tokens of RFC 4757 and the frame of RFC 2743 written
+//! from their published texts alone, and a clerk for receive windows, for the
+//! library to be compared with, and the inputs for that.
 
 // Each test file uses its own share of this module.
 #![allow(dead_code, unused_imports)]
@@ -9,6 +9,8 @@
 mod checksum;
 pub mod clerk;
 mod faults;
+mod frame;
+pub mod frame_outcomes;
 mod hmac;
 mod inputs;
 mod md4;
@@ -27,7 +29,8 @@ mod window_inputs;
 
 pub use checksum::checksum;
 pub use clerk::Clerk;
-pub use faults::{fault_sets, first};
+pub use faults::{fault_sets, first, Faults};
+pub use frame::{der_length, frame, frame_with, lead, long_form, read_lead, MECHANISM, TAG};
 pub use hmac::hmac_md5;
 pub use inputs::{counting, Inputs, OVER_MESSAGE};
 pub use md4::md4;

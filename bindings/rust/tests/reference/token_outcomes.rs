@@ -6,7 +6,7 @@ use super::outcomes::{is_inside, must_be_octets, Outcome};
 use super::token::{TokenTerms, Wrap, FRONT, MIC};
 
 /// The longest message, and the longest data of a MIC.
-const MESSAGE_MAX: usize = 32_768;
+pub const MESSAGE_MAX: usize = 32_768;
 
 /// The refusal number, all that a reader answers and the buffer afterwards.
 /// A MIC reader answers a sequence number only.

@@ -1,0 +1,123 @@
+//! The two forms of tokens, without the frame and in it: the calls of the library,
+//! each compared with the second program's.
+
+use super::{Program, FRAMED_REFERENCE, REFERENCE};
+use crate::calls::{self, TokenCalls};
+use crate::reference::{frame_outcomes, lead, Outcome, Reading, TokenTerms, Wrap, FRONT, MIC};
+
+/// The raw functions, what they must answer and leave, and what stands before a
+/// token of some length.
+pub struct Form {
+    pub calls: TokenCalls,
+    pub expected: Program,
+    lead: fn(usize) -> Vec<u8>,
+}
+
+pub static TOKENS: Form = Form {
+    calls: calls::TOKENS,
+    expected: REFERENCE,
+    lead: |_| Vec::new(),
+};
+
+pub static FRAMED: Form = Form {
+    calls: calls::FRAMED,
+    expected: FRAMED_REFERENCE,
+    lead,
+};
+
+pub static FORMS: [&Form; 2] = [&TOKENS, &FRAMED];
+
+/// The refusal number and the lead.
+#[track_caller]
+pub fn framed_wrap_lead(message_len: usize) -> (u32, usize) {
+    let answer = calls::framed_wrap_lead(message_len);
+    let expected = frame_outcomes::wrap_lead(message_len);
+    assert_eq!(answer, expected, "{message_len}");
+    answer
+}
+
+impl Form {
+    /// The octets of a Wrap token before its message.
+    pub fn front(&self, message_len: usize) -> usize {
+        (self.lead)(FRONT + message_len + 1).len() + FRONT
+    }
+
+    /// The octets of a Wrap token.
+    pub fn wrap_len(&self, message_len: usize) -> usize {
+        self.front(message_len) + message_len + 1
+    }
+
+    /// The octets of a MIC token.
+    pub fn mic_len(&self) -> usize {
+        (self.lead)(MIC).len() + MIC
+    }
+
+    /// The token as it stands in a buffer.
+    pub fn form(&self, token: &[u8]) -> Vec<u8> {
+        [&(self.lead)(token.len())[..], token].concat()
+    }
+
+    #[track_caller]
+    pub fn mic_write(
+        &self,
+        terms: &TokenTerms,
+        sequence: u32,
+        data: &[u8],
+        buf: &[u8],
+        start: usize,
+    ) -> Outcome {
+        let outcome = self.calls.mic_write(terms, sequence, data, buf, start);
+        let expected = (self.expected.mic_write)(terms, sequence, data, buf, start);
+        let what = (terms.name(), sequence, data.len(), buf.len(), start);
+        outcome.must_be(&expected, what);
+        outcome
+    }
+
+    #[track_caller]
+    pub fn mic_read(
+        &self,
+        terms: &TokenTerms,
+        data: &[u8],
+        buf: &[u8],
+        start: usize,
+        length: usize,
+    ) -> Reading {
+        let reading = self.calls.mic_read(terms, data, buf, start, length);
+        let expected = (self.expected.mic_read)(terms, data, buf, start, length);
+        let what = (terms.name(), data.len(), buf.len(), start, length);
+        reading.must_be(&expected, what);
+        reading
+    }
+
+    /// The message stands in the buffer; that of `wrap` is not looked at.
+    #[track_caller]
+    pub fn wrap_write(
+        &self,
+        terms: &TokenTerms,
+        wrap: &Wrap,
+        buf: &[u8],
+        start: usize,
+        message_len: usize,
+    ) -> Outcome {
+        let outcome = self.calls.wrap_write(terms, wrap, buf, start, message_len);
+        let expected = (self.expected.wrap_write)(terms, wrap, buf, start, message_len);
+        let what = (terms.name(), wrap.sealed, buf.len(), start, message_len);
+        outcome.must_be(&expected, what);
+        outcome
+    }
+
+    #[track_caller]
+    pub fn wrap_open(
+        &self,
+        terms: &TokenTerms,
+        buf: &[u8],
+        start: usize,
+        length: usize,
+    ) -> Reading {
+        let reading = self.calls.wrap_open(terms, buf, start, length);
+        let expected = (self.expected.wrap_open)(terms, buf, start, length);
+        let what = (terms.name(), buf.len(), start, length);
+        reading.must_be(&expected, what);
+        reading
+    }
+}

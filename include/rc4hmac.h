@@ -242,11 +242,14 @@ uint32_t rc4hmac_wrap_open(const uint8_t key[16], uint32_t export_strength,
  *
  * The readers refuse first with RC4HMAC_REFUSED_REGION a region that is not
  * inside the buffer; then with RC4HMAC_REFUSED_FRAME a region that is not one
- * whole frame: one shorter than 13 octets, with another tag or mechanism, with a
- * length in another form than the shortest, or with a length that ends before or
- * after the region does; and then as the readers of tokens do, for the token in
- * the frame: RC4HMAC_REFUSED_LENGTH, for the data or the token, comes first of
- * these, and so after the two others. */
+ * whole frame: one shorter than 13 octets, with another tag or mechanism, with
+ * a length in another form than the shortest, or with a length that ends before
+ * or after the region does; and then as the readers of tokens do, for the token
+ * in the frame: RC4HMAC_REFUSED_LENGTH, for the data or the token, comes first
+ * of these, and so after the two others.
+ *
+ * To bill a framed token, hand the number that its reader wrote, if that
+ * answered RC4HMAC_DONE, to rc4hmac_window_bill. */
 
 /* Writes the framed MIC token of 0 to RC4HMAC_MESSAGE_MAX octets of data and a
  * sequence number to the RC4HMAC_FRAMED_MIC_LEN octets at `start`, and that
@@ -268,17 +271,18 @@ uint32_t rc4hmac_framed_mic_read(const uint8_t key[16],
                                  size_t start, size_t length,
                                  uint32_t *sequence);
 
-/* Writes to `lead` how many octets of a framed Wrap token stand before the token
- * if its message is `message_len` octets long, 0 to RC4HMAC_MESSAGE_MAX: 13, 14
- * or 15. A longer message is refused for its length. */
+/* Writes to `lead` how many octets of a framed Wrap token stand before the
+ * token if its message is `message_len` octets long, 0 to RC4HMAC_MESSAGE_MAX:
+ * 13, 14 or 15. A longer message is refused for its length. */
 uint32_t rc4hmac_framed_wrap_lead(size_t message_len, size_t *lead);
 
 /* Writes a framed Wrap token in place. The message, 0 to RC4HMAC_MESSAGE_MAX
  * octets, stands where it will stand in the framed token: the lead, which
  * rc4hmac_framed_wrap_lead tells, and RC4HMAC_WRAP_MESSAGE_OFFSET octets after
  * `start`. The region from `start` to one octet after the message becomes the
- * lead and the token that rc4hmac_wrap_write writes, and its length, the lead
- * and RC4HMAC_WRAP_OVERHEAD more than the message's, is written to `written`. */
+ * lead and the token that rc4hmac_wrap_write writes, and its length, which is
+ * the lead and RC4HMAC_WRAP_OVERHEAD more than the message's, is written to
+ * `written`. */
 uint32_t rc4hmac_framed_wrap_write(const uint8_t key[16],
                                    uint32_t export_strength,
                                    uint32_t acceptor, uint32_t sequence,
@@ -291,10 +295,10 @@ uint32_t rc4hmac_framed_wrap_write(const uint8_t key[16],
 /* Opens a framed Wrap token in place: the region of `length` octets at `start`,
  * RC4HMAC_FRAMED_WRAP_MIN to RC4HMAC_FRAMED_WRAP_MAX of them in a token that
  * opens, keeps its lead and the token's octets 0 to 23 and has the confounder,
- * the message and the pad plain. The pad is the region's last octet, so that the
- * message begins at start + length - 1 - message_len. The sequence number is
- * written to `sequence`, 1 or 0 for sealed or not to `sealed` and the message's
- * length to `message_len`. */
+ * the message and the pad plain. The pad is the region's last octet, so that
+ * the message begins at start + length - 1 - message_len. The sequence number
+ * is written to `sequence`, 1 or 0 for sealed or not to `sealed` and the
+ * message's length to `message_len`. */
 uint32_t rc4hmac_framed_wrap_open(const uint8_t key[16],
                                   uint32_t export_strength, uint32_t acceptor,
                                   uint8_t *buf, size_t buf_len,

@@ -1,6 +1,7 @@
--- The laws by which the functions of this crate are proved. A crate above may cite the theorems on lengths and frames.
-pub mod Lengths
+-- The laws by which the functions of this crate are proved. Those that a crate above may cite are in `Laws`.
+pub mod Laws
+mod Lengths
 mod Contents
+mod Frames
 mod Leads
 mod Regions
-pub mod Frames

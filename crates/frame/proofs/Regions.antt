@@ -8,7 +8,7 @@ use lib.ListN.{length, take, drop, length-drop}
 use lib.Seq.{take-add, drop-at, drop-drop, length-take-le}
 use Rattle.tokens.specs.Answer.{Outcome}
 use Rattle.tokens.specs.Limits.{inside, region}
-use Rattle.frame.specs.Answer.{Reading, outside, fault, token, readToken, readFramed}
+use Rattle.frame.specs.Answer.{outside, fault, token, readToken, readFramed}
 use Rattle.frame.specs.Framing.{leadLength, frame, framing, Framed}
 use Rattle.frame.specs.declared.framing.Framing.the-variants.{Token, Fault}
 use Rattle.frame.proofs.Frames.{frames-exactly, frame-length, fault-token}

@@ -1,6 +1,6 @@
 -- The outer frame of a token: RFC 2743, section 3.1. The rule that writes one, what reading one gives, and that reading succeeds exactly
 -- on what the rule writes.
-use Prim.Native.Nat.{ℕ, _+_, _-_, _≤_}
+use Prim.Native.Nat.{ℕ, _+_, _-_}
 use mathlib.Core.Path.{_≡_}
 use mathlib.Core.Bool.{cond, _&&_}
 use mathlib.Core.List.{List, [], _∷_, _++_}
@@ -67,7 +67,7 @@ pub record Framed (Holds : List ℕ → Type 0) (octets : List ℕ) : Type 0 whe
   pub as-framed : frame token ≡ octets
 
 -- Octets are read as a frame exactly when the rule writes them around some token: only then, and always then. There is one such
--- token. For all octets (`frames-exactly` of `proofs/Frames.antt`).
+-- token. For all octets (`frames-exactly` of `proofs/Laws.antt`).
 pub record FramesExactly (octets : List ℕ) : Type 0 where
   pub only-then : (before n : ℕ) → framing octets ≡ Token before n → (leadLength n ≡ before) × (length (drop before octets) ≡ n) × (frame (drop before octets) ≡ octets)
   pub always-then : (token : List ℕ) → frame token ≡ octets → framing octets ≡ Token (leadLength (length token)) (length token)

@@ -69,7 +69,7 @@ pub record Says (octets : List ℕ) (n : ℕ) : Type 0 where
   pub whole : widthIn octets ≡ length octets
   pub value : valueIn octets ≡ n
 
--- For every number (`shortest-form` of `proofs/Lengths.antt`).
+-- For every number (`shortest-form` of `proofs/Laws.antt`).
 pub record ShortestForm (n : ℕ) : Type 0 where
   pub width-back : (rest : List ℕ) → widthIn (derLength n ++ rest) ≡ length (derLength n)
   pub value-back : (rest : List ℕ) → valueIn (derLength n ++ rest) ≡ n

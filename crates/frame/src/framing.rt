@@ -11,6 +11,7 @@ pub enum Framing {
     Fault,
 }
 
+// The tag: [APPLICATION 0], constructed.
 pub const TAG: u8 = 0x60;
 
 // Octets of the mechanism.

@@ -73,7 +73,8 @@ fn value_within(most: usize, octets: &[u8]) -> Value
     Value::Number(value)
 }
 
-// The length at the front of some octets, if it has the shortest form and all that it counts follows it.
+// The length at the front of some octets, if it has the shortest form and all that it counts follows it. A long form is the shortest if
+// its number is 128 or more and has no zero before it.
 pub fn contents_in(octets: &[u8]) -> Contents
     ensures { λ r. ⌜ r ≡ Spec.contentsIn (now (octets .entry)) ⌝ }
 {

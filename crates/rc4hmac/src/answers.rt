@@ -4,7 +4,6 @@ ghost use Rattle.tokens.specs.Answer.{statusNumber};
 ghost use Rattle.rc4hmac.specs.Answers.{flagNumber, windowWords, DigestOut, ExtentOut, SequenceOut, UnwrappedOut, FramedSequenceOut, FramedUnwrappedOut, ReceivedOut};
 use billing::receive::Received;
 use billing::window::Window;
-use frame::answer;
 use frame::answer::FramedSequence;
 use frame::answer::FramedUnwrapped;
 use tokens::answer::Digest;
@@ -109,10 +108,13 @@ pub fn framed_sequence_out(framed: FramedSequence, out: &mut u32) -> u32
     ensures { λ r. ⌜ FramedSequenceOut framed r (now (out .exit)) ⌝ }
 {
     match framed {
-        FramedSequence::Token(token) => sequence_out(token, out),
+        FramedSequence::Token(token) => {
+            sequence_out(token, out);
+            framed.number()
+        }
         FramedSequence::Fault => {
             *out = 0;
-            answer::FAULT
+            framed.number()
         }
     }
 }
@@ -127,12 +129,15 @@ pub fn framed_unwrapped_out(
     ensures { λ r. ⌜ FramedUnwrappedOut framed r (now (sequence .exit)) (now (sealed .exit)) (now (len .exit)) ⌝ }
 {
     match framed {
-        FramedUnwrapped::Token(token) => unwrapped_out(token, sequence, sealed, len),
+        FramedUnwrapped::Token(token) => {
+            unwrapped_out(token, sequence, sealed, len);
+            framed.number()
+        }
         FramedUnwrapped::Fault => {
             *sequence = 0;
             *sealed = 0;
             *len = 0;
-            answer::FAULT
+            framed.number()
         }
     }
 }

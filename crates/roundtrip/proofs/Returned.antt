@@ -1,11 +1,20 @@
 -- From what a writer and its reader promise: what comes back is what was written.
-use mathlib.Core.Path.{_≡_, sym, ap, _∙_, subst}
+use mathlib.Core.Path.{_≡_, refl, sym, ap, _∙_, subst}
 use mathlib.Core.Bool.{Bool, false}
 use mathlib.Core.List.{List}
 use Prim.Native.Nat.{ℕ, _+_, _≤_, _<_}
 use native.Mathlib.Omega.{arith}
 use lib.ListN.{length, length-take, length-drop}
 use Rattle.primitives.specs.Octets.{Octets}
+use Rattle.frame.proofs.Laws.{frame-length, framed-mic-made, framed-wrap-made}
+use Rattle.frame.specs.Answer.{framedSequenceRefusal, framedSequenceNumber, framedUnwrappedNumber, framedUnwrappedSequence, framedUnwrappedSealed, framedUnwrappedLength, openedBuffer}
+use Rattle.frame.specs.Framing.{leadLength}
+use Rattle.frame.specs.Mic as FramedMic
+use Rattle.frame.specs.Wrap as FramedWrap
+use Rattle.frame.specs.declared.answer.FramedSequence.{FramedSequence}
+use Rattle.frame.specs.declared.answer.FramedSequence.the-variants as framed-sequence
+use Rattle.frame.specs.declared.answer.FramedUnwrapped.{FramedUnwrapped}
+use Rattle.frame.specs.declared.answer.FramedUnwrapped.the-variants as framed-unwrapped
 use Rattle.tokens.specs.Answer.{Outcome, done, refused, extentNumber, extentOctets, extentAnswer, sequenceRefusal, sequenceNumber, unwrappedNumber, unwrappedSequence, unwrappedSealed, unwrappedLength}
 use Rattle.tokens.specs.Limits.{region, placed, bufferAfter}
 use Rattle.tokens.specs.Message as Message
@@ -24,7 +33,7 @@ use Rattle.tokens.specs.declared.answer.Unwrapped.the-variants as unwrapped
 use Rattle.tokens.specs.declared.context.Context.{Context}
 use Rattle.tokens.specs.declared.strength.Strength.{Strength}
 use Rattle.tokens.proofs.Laws.{never-zero, region-octets, placed-stands, placed-length, message-length as encrypt-length, mic-length, wrap-length, message-made, mic-made, wrap-made}
-use Rattle.roundtrip.specs.Returns.{MessageReturns, MicReturns, WrapReturns}
+use Rattle.roundtrip.specs.Returns.{MessageReturns, MicReturns, WrapReturns, FramedMicReturns, FramedWrapReturns}
 
 -- ---- What the writer left
 
@@ -202,4 +211,102 @@ module _ (context : Context) (n : ℕ) (confounder : List ℕ) (sealed : Bool) (
               exact .always-then (there .0) wrap-parts (subst (Wrap.Written context wrap-parts) (sym (there .1)) (w .1));
           buffer = λ octets e. rw (← left wrapped buf start w-is between-is e, ← answered wrapped buf start w-is between-is told e) after-is;
           outward = λ p e. absurd (not-refused wrapped buf start w-is between-is told e);
+        }
+
+-- ---- Framed MIC tokens
+
+-- an answer of done is the number
+framed-number-is : (answer : FramedSequence) {n : ℕ} → framedSequenceRefusal answer ≡ 0 → framedSequenceNumber answer ≡ n → answer ≡ framed-sequence.Token (sequence.Number n)
+framed-number-is (framed-sequence.Token s) z e = ap framed-sequence.Token (number-is s z e)
+framed-number-is framed-sequence.Fault z e = absurd (omega arith)
+
+module _ (context : Context) (n : ℕ) (text buf : List ℕ) (start : ℕ) where
+  abbrev framed-signed : Outcome (List ℕ)
+  framed-signed = FramedMic.framedMicWriting context n text buf start
+
+  module _ {w : Extent} {between : List ℕ} (w-is : w ≡ extentAnswer length framed-signed) (between-is : between ≡ bufferAfter allOctets start buf framed-signed) where
+    pub framed-mic-outward : {q : Refusal} → w ≡ extent.Refused q → FramedMicReturns framed-signed n start buf (framed-sequence.Token (sequence.Refused q)) between
+    framed-mic-outward {q} told =
+        record {
+          back = λ octets e. absurd (not-done framed-signed buf start w-is between-is told e);
+          buffer = λ octets e. absurd (not-done framed-signed buf start w-is between-is told e);
+          outward = λ p e. (ap (λ (x : Extent). framed-sequence.Token (sequence-too x)) (same-refusal framed-signed buf start w-is between-is told e), unchanged framed-signed buf start w-is between-is e);
+        }
+
+    framed-mic-written : n < sequenceNumbers → {octets : List ℕ} → framed-signed ≡ done octets → (start + length octets ≤ length buf) × FramedMic.Written context text n octets
+    framed-mic-written fits {octets} e =
+        let made = framed-mic-made context n text buf start e in
+        let token = Mic.micToken context n text in
+        let size = mic-length context n text in
+        let whole : length octets ≡ leadLength 24 + 24 = ap length (made .2) ∙ frame-length token ∙ ap (λ (k : ℕ). leadLength k + k) size in (
+          omega (arith, made .1),
+          record { token = token; holds = record { number-fits = fits; text-most = made .0; as-written = refl }; as-framed = sym (made .2) },
+        )
+
+    pub framed-mic-returned : n < sequenceNumbers → {m : ℕ} {answer : FramedSequence} → w ≡ extent.Octets m
+        → FramedMic.ReadsExactly context text between start m (framedSequenceRefusal answer) (framedSequenceNumber answer) → FramedMicReturns framed-signed n start buf answer between
+    framed-mic-returned fits {m} {answer} told exact =
+        record {
+          back = λ octets e.
+              let w = framed-mic-written fits e in
+              let there = stands framed-signed buf start w-is between-is told e (w .0) in
+              let read = exact .always-then (there .0) n (subst (FramedMic.Written context text n) (sym (there .1)) (w .1)) in
+              framed-number-is answer (read .0) (read .1);
+          buffer = λ octets e. left framed-signed buf start w-is between-is e;
+          outward = λ p e. absurd (not-refused framed-signed buf start w-is between-is told e);
+        }
+
+-- ---- Framed Wrap tokens
+
+module _ (context : Context) (n : ℕ) (confounder : List ℕ) (sealed : Bool) (buf : List ℕ) (start len : ℕ) where
+  abbrev framed-wrapped : Outcome (List ℕ)
+  framed-wrapped = FramedWrap.framedWrapWriting context n confounder sealed buf start len
+
+  abbrev framed-parts : Wrap.Parts
+  framed-parts = Wrap.parts n sealed confounder (region (FramedWrap.framedMessageAt start len) len buf)
+
+  module _ {w : Extent} {between : List ℕ} (w-is : w ≡ extentAnswer length framed-wrapped) (between-is : between ≡ bufferAfter allOctets start buf framed-wrapped) where
+    pub framed-wrap-outward : {q : Refusal} → w ≡ extent.Refused q → FramedWrapReturns context framed-wrapped framed-parts start buf (framed-unwrapped.Token (unwrapped.Refused q)) between
+    framed-wrap-outward {q} told =
+        record {
+          back = λ octets e. absurd (not-done framed-wrapped buf start w-is between-is told e);
+          buffer = λ octets e. absurd (not-done framed-wrapped buf start w-is between-is told e);
+          outward = λ p e. (ap (λ (x : Extent). framed-unwrapped.Token (unwrapped-too x)) (same-refusal framed-wrapped buf start w-is between-is told e), unchanged framed-wrapped buf start w-is between-is e);
+        }
+
+    framed-wrap-written : n < sequenceNumbers → length confounder ≡ 8 → Octets confounder → Octets buf → {octets : List ℕ} → framed-wrapped ≡ done octets
+        → (start + length octets ≤ length buf) × FramedWrap.Written context framed-parts octets
+    framed-wrap-written fits eight confounder-octets bytes {octets} e =
+        let made = framed-wrap-made context n confounder sealed buf start len e in
+        let token = Wrap.wrapToken context framed-parts in
+        let message = message-length buf (FramedWrap.framedMessageAt start len) len (omega (arith, made .1)) in
+        let size : length token ≡ 33 + len = wrap-length context framed-parts eight ∙ ap (λ (k : ℕ). 33 + k) message in
+        let whole : length octets ≡ leadLength (33 + len) + (33 + len) = ap length (made .2) ∙ frame-length token ∙ ap (λ (k : ℕ). leadLength k + k) size in (
+          omega (arith, made .1),
+          record {
+            token = token;
+            holds = record {
+              number-fits = fits;
+              confounder-eight = eight;
+              confounder-octets = confounder-octets;
+              message-most = omega (arith, made .0, message);
+              message-octets = region-octets (FramedWrap.framedMessageAt start len) len buf bytes;
+              as-written = refl;
+            };
+            as-framed = sym (made .2);
+          },
+        )
+
+    pub framed-wrap-returned : n < sequenceNumbers → length confounder ≡ 8 → Octets confounder → Octets buf → {m : ℕ} {answer : FramedUnwrapped} {after : List ℕ} → w ≡ extent.Octets m
+        → after ≡ openedBuffer start between (FramedWrap.framedWrapOpening context between start m)
+        → FramedWrap.OpensExactly context between start m (framedUnwrappedNumber answer) (framedUnwrappedSequence answer) (framedUnwrappedSealed answer) (framedUnwrappedLength answer) after
+        → FramedWrapReturns context framed-wrapped framed-parts start buf answer after
+    framed-wrap-returned fits eight confounder-octets bytes {m} {answer} {after} told after-is exact =
+        record {
+          back = λ octets e.
+              let w = framed-wrap-written fits eight confounder-octets bytes e in
+              let there = stands framed-wrapped buf start w-is between-is told e (w .0) in
+              rw (← answered framed-wrapped buf start w-is between-is told e) (exact .always-then (there .0) framed-parts (subst (FramedWrap.Written context framed-parts) (sym (there .1)) (w .1)));
+          buffer = λ octets e. rw (← left framed-wrapped buf start w-is between-is e, ← answered framed-wrapped buf start w-is between-is told e) after-is;
+          outward = λ p e. absurd (not-refused framed-wrapped buf start w-is between-is told e);
         }

@@ -3,6 +3,12 @@ use mathlib.Core.Path.{_≡_}
 use mathlib.Core.List.{List}
 use Prim.Native.Nat.{ℕ, _+_}
 use lib.ListN.{length}
+use Rattle.frame.specs.Answer.{framedUnwrappedNumber, framedUnwrappedSequence, framedUnwrappedSealed, framedUnwrappedLength, openedBuffer}
+use Rattle.frame.specs.Wrap as FramedWrap
+use Rattle.frame.specs.declared.answer.FramedSequence.{FramedSequence}
+use Rattle.frame.specs.declared.answer.FramedSequence.the-variants as framed-sequence
+use Rattle.frame.specs.declared.answer.FramedUnwrapped.{FramedUnwrapped}
+use Rattle.frame.specs.declared.answer.FramedUnwrapped.the-variants as framed-unwrapped
 use Rattle.tokens.specs.Answer.{Outcome, done, refused, extentNumber, extentOctets, unwrappedNumber, unwrappedSequence, unwrappedSealed, unwrappedLength}
 use Rattle.tokens.specs.Limits.{placed, bufferAfter}
 use Rattle.tokens.specs.Message as Message
@@ -37,3 +43,17 @@ pub record WrapReturns (context : Context) (written : Outcome (List ℕ)) (p : W
   pub buffer : (octets : List ℕ) → written ≡ done octets
       → after ≡ bufferAfter Wrap.plain (start + 24) (placed start octets buf) (Wrap.wrapOpening context (placed start octets buf) start (length octets))
   pub outward : (q : Refusal) → written ≡ refused q → (answer ≡ unwrapped.Refused q) × (after ≡ buf)
+
+-- a framed MIC token
+pub record FramedMicReturns (written : Outcome (List ℕ)) (n : ℕ) (start : ℕ) (buf : List ℕ) (answer : FramedSequence) (after : List ℕ) : Type 0 where
+  pub back : (octets : List ℕ) → written ≡ done octets → answer ≡ framed-sequence.Token (sequence.Number n)
+  pub buffer : (octets : List ℕ) → written ≡ done octets → after ≡ placed start octets buf
+  pub outward : (q : Refusal) → written ≡ refused q → (answer ≡ framed-sequence.Token (sequence.Refused q)) × (after ≡ buf)
+
+-- a framed Wrap token, as `framed_wrap_open` hands it back
+pub record FramedWrapReturns (context : Context) (written : Outcome (List ℕ)) (p : Wrap.Parts) (start : ℕ) (buf : List ℕ) (answer : FramedUnwrapped) (after : List ℕ) : Type 0 where
+  pub back : (octets : List ℕ) → written ≡ done octets
+      → FramedWrap.HandedBack p start (length octets) (framedUnwrappedNumber answer) (framedUnwrappedSequence answer) (framedUnwrappedSealed answer) (framedUnwrappedLength answer) after
+  pub buffer : (octets : List ℕ) → written ≡ done octets
+      → after ≡ openedBuffer start (placed start octets buf) (FramedWrap.framedWrapOpening context (placed start octets buf) start (length octets))
+  pub outward : (q : Refusal) → written ≡ refused q → (answer ≡ framed-unwrapped.Token (unwrapped.Refused q)) × (after ≡ buf)

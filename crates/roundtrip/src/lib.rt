@@ -1,11 +1,17 @@
-// Each writer of `tokens` and its reader, one after the other. It is a client: what it promises is proved from their contracts and
+// Each writer of `tokens` and of `frame` and its reader, one after the other. It is a client: what it promises is proved from their contracts and
 // the published laws alone.
 ghost use Prim.Native.Nat.{_+_};
+ghost use Rattle.frame.specs.Mic.{framedMicWriting};
+ghost use Rattle.frame.specs.Wrap.{framedMessageAt, framedWrapWriting};
 ghost use Rattle.tokens.specs.Limits.{region};
 ghost use Rattle.tokens.specs.Message as Message;
 ghost use Rattle.tokens.specs.Mic as Mic;
 ghost use Rattle.tokens.specs.Wrap as Wrap;
-ghost use Rattle.roundtrip.specs.Returns.{MessageReturns, MicReturns, WrapReturns};
+ghost use Rattle.roundtrip.specs.Returns.{MessageReturns, MicReturns, WrapReturns, FramedMicReturns, FramedWrapReturns};
+use frame::answer::FramedSequence;
+use frame::answer::FramedUnwrapped;
+use frame::mic as framed_mic;
+use frame::wrap as framed_wrap;
 use tokens::answer::Extent;
 use tokens::answer::Sequence;
 use tokens::answer::Unwrapped;
@@ -65,5 +71,39 @@ pub fn wrap_then_open(
     match wrap::wrap_write(context, sequence, confounder, sealed, buf, start, len) {
         Extent::Octets(n) => wrap::wrap_open(context, buf, start, n),
         Extent::Refused(refusal) => Unwrapped::Refused(refusal),
+    }
+}
+
+// Writes the framed MIC token of a sequence number over the data, and reads it again.
+pub fn framed_mic_then_read(
+    context: Context,
+    sequence: u32,
+    data: &[u8],
+    buf: &mut [u8],
+    start: usize,
+) -> FramedSequence
+    ensures { λ r. ⌜ FramedMicReturns (framedMicWriting context sequence (now («data» .entry)) (now (buf .entry)) start) sequence start (now (buf .entry)) r (now (buf .exit)) ⌝ }
+{
+    match framed_mic::framed_mic_write(context, sequence, data, buf, start) {
+        Extent::Octets(n) => framed_mic::framed_mic_read(context, data, buf, start, n),
+        Extent::Refused(refusal) => FramedSequence::Token(Sequence::Refused(refusal)),
+    }
+}
+
+// Writes the framed Wrap token of the `len` octets that stand where it has its message, and opens it again.
+pub fn framed_wrap_then_open(
+    context: Context,
+    sequence: u32,
+    confounder: [u8; 8],
+    sealed: bool,
+    buf: &mut [u8],
+    start: usize,
+    len: usize,
+) -> FramedUnwrapped
+    ensures { λ r. ⌜ FramedWrapReturns context (framedWrapWriting context sequence confounder sealed (now (buf .entry)) start len) (Wrap.parts sequence sealed confounder (region (framedMessageAt start len) len (now (buf .entry)))) start (now (buf .entry)) r (now (buf .exit)) ⌝ }
+{
+    match framed_wrap::framed_wrap_write(context, sequence, confounder, sealed, buf, start, len) {
+        Extent::Octets(n) => framed_wrap::framed_wrap_open(context, buf, start, n),
+        Extent::Refused(refusal) => FramedUnwrapped::Token(Unwrapped::Refused(refusal)),
     }
 }

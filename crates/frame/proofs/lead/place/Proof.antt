@@ -1,6 +1,4 @@
 -- The part that was lent comes back with the octets copied into it.
-use native.Mathlib.Omega.{arith}
-use lib.ListN.{length-take, length-drop}
 use borrow.Author.Needs.{needs}
 use Rattle.frame.proofs.Leads.{copied}
 use Rattle.frame.proofs.lead.place.Statement.{statement}

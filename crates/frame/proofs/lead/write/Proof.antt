@@ -3,12 +3,11 @@ use mathlib.Core.Path.{_≡_, sym, ap, _∙_}
 use mathlib.Core.List.{List}
 use Prim.Native.Nat.{ℕ, _+_, _≤_}
 use native.Mathlib.Omega.{arith}
-use lib.ListN.{length, take, length-take}
+use lib.ListN.{length, take}
 use lib.Seq.{length-take-le}
 use borrow.Author.Needs.{needs}
 use Rattle.tokens.proofs.Laws.{placed-length}
 use Rattle.frame.specs.Framing.{mechanism, lead, leadLength}
-use Rattle.frame.specs.Length.{derLength}
 use Rattle.frame.proofs.Frames.{lead-length}
 use Rattle.frame.proofs.Leads.{first-length, second-length, lead-placed}
 use Rattle.frame.proofs.lead.write.Statement.{statement}

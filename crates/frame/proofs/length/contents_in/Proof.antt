@@ -1,9 +1,9 @@
 -- Each way out has its law in `proofs/Contents.antt`.
-use mathlib.Core.Path.{_≡_, refl, sym, ap, ap₂, _∙_}
+use mathlib.Core.Path.{_≡_, sym, ap, ap₂, _∙_}
 use mathlib.Core.List.{List}
 use Prim.Native.Nat.{ℕ, _+_, _-_, _≤_, _<_}
 use native.Mathlib.Omega.{arith}
-use lib.ListN.{length, getD, take, drop}
+use lib.ListN.{length, getD}
 use borrow.Author.Needs.{needs}
 use Rattle.primitives.specs.Octets.{Octets}
 use Rattle.frame.specs.Length.{valueAfter, upTo}
@@ -33,6 +33,13 @@ module _ (c : tie.Else4) where
   abbrev octets : List ℕ
   octets = c .before .before .before .before .before .before .args .octets .now
 
+  abbrev value : ℕ
+  value = valueAfter 0 (digitsIn octets)
+
+  -- the octets after the digits
+  abbrev following : ℕ
+  following = length octets - 1 - (c .before .before .number .result - 128)
+
   first-is : c .before .before .number .result ≡ getD octets 0 0
   first-is = c .before .before .number .ensures .0
 
@@ -48,51 +55,49 @@ module _ (c : tie.Else4) where
   bytes : Octets octets
   bytes = λ i. c .before .before .before .before .before .shared-slice-known .given i .fits
 
-  fits : (value : ℕ) → value ≤ length octets - 1 - (c .before .before .number .result - 128) → getD octets 0 0 - 127 + value ≤ length octets
-  fits value h = omega (arith, first-is, long, there)
+  fits : value ≤ following → getD octets 0 0 - 127 + value ≤ length octets
+  fits h = omega (arith, first-is, long, there)
 
-  past : (value : ℕ) → length octets - 1 - (c .before .before .number .result - 128) < value → length octets < getD octets 0 0 - 127 + value
-  past value h = omega (arith, first-is, long, there)
+  past : following < value → length octets < getD octets 0 0 - 127 + value
+  past h = omega (arith, first-is, long, there)
 
--- the number that the digits say was read, if it is at most what follows them
-said : (c : tie.After-value-within) → let a = c .before .before .before .before .before .before .before .before .args in let first = c .before .before .before .before .number .result in c .value-within .result ≡ upTo (length (a .octets .now) - 1 - (first - 128)) (valueAfter 0 (digitsIn (a .octets .now)))
+-- the number that the digits say, if it is at most what follows them
+said : (c : tie.After-value-within) → let form = c .before .before in c .value-within .result ≡ upTo (following form) (value form)
 said c =
-    let a = c .before .before .before .before .before .before .before .before .args in
-    let first = c .before .before .before .before .number in
-    c .value-within .ensures ∙ ap (λ (l : List ℕ). upTo (length (a .octets .now) - 1 - (first .result - 128)) (valueAfter 0 l)) (Law.digits-lent (a .octets .now) (first .result) (first .ensures .0))
+    let form = c .before .before in
+    c .value-within .ensures ∙ ap (λ (l : List ℕ). upTo (following form) (valueAfter 0 l)) (Law.digits-lent (octets form) (form .before .before .number .result) (first-is form))
 
 returns-5 : tie.Need-returns-5
 returns-5 c =
     let form = c .before .before .before .before in
-    sym (Law.long-past _ (long form) (there form) (past form _ (was-above _ _ (sym (said (c .before .before)) ∙ c .enum-told .given .1))))
+    sym (Law.long-past _ (long form) (there form) (past form (was-above _ _ (sym (said (c .before .before)) ∙ c .enum-told .given .1))))
 
--- it was at most that
-within : (c : tie.After-said) → let a = c .before .before .before .before .before .before .before .before .before .before .args in let first = c .before .before .before .before .before .before .number .result in (valueAfter 0 (digitsIn (a .octets .now)) ≤ length (a .octets .now) - 1 - (first - 128)) × (valueAfter 0 (digitsIn (a .octets .now)) ≡ c .said .given .0 .0)
+within : (c : tie.After-said) → let form = c .before .before .before .before in (value form ≤ following form) × (value form ≡ c .said .given .0 .0)
 within c = was-within _ _ _ (sym (said (c .before .before)) ∙ c .said .given .1)
 
 returns-6 : tie.Need-returns-6
 returns-6 c =
     let form = c .before .before .before .before .before .before in
-    let value = within (c .before .before) in
+    let read = within (c .before .before) in
     sym (Law.too-small _ (long form) (there form) (omega arith))
 
 some-digit : tie.Need-shared-slice-read-if6
 some-digit c =
     let form = c .before .before .before .before .before .before .before in
-    let value = within (c .before .before .before) in
+    let read = within (c .before .before .before) in
     omega (arith, Law.one-digit (octets form) (long form) (there form) (omega arith), there form)
 
 returns-7 : tie.Need-returns-7
 returns-7 c =
     let form = c .before .before .before .before .before .before .before .before in
-    let value = within (c .before .before .before .before) in
+    let read = within (c .before .before .before .before) in
     sym (Law.leading-zero _ (long form) (there form) (bytes form) (omega arith) (c .if6 .taken))
 
 returns-8 : tie.Need-returns-8
 returns-8 c =
     let form = c .before .before .before .before .before .before .before .before in
-    let value = within (c .before .before .before .before) in
-    sym (Law.long-there _ (long form) (there form) (bytes form) (omega arith) (c .if6 .left) (fits form _ (value .0)) ∙ ap₂ Counted (width form) (value .1))
+    let read = within (c .before .before .before .before) in
+    sym (Law.long-there _ (long form) (there form) (bytes form) (omega arith) (c .if6 .left) (fits form (read .0)) ∙ ap₂ Counted (width form) (read .1))
 
 pub contents-in-spec : {M : Type 1} → statement M
 contents-in-spec =

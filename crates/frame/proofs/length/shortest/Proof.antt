@@ -8,10 +8,10 @@ use Rattle.frame.proofs.length.shortest.Statement.{statement}
 use Rattle.frame.proofs.length.shortest.Tie as tie
 
 returns : tie.Need-returns
-returns c = let form = der-short _ (c .if1 .taken) in (ap length (sym form), omega arith, sym form)
+returns c = let form = der-short (c .before .args .n) (omega arith) in (ap length (sym form), omega arith, sym form)
 
 returns-2 : tie.Need-returns-2
-returns-2 c = let form = der-two _ (omega arith) (c .if2 .taken) in (ap length (sym form), omega arith, sym form)
+returns-2 c = let form = der-two (c .before .before .args .n) (omega arith) (omega arith) in (ap length (sym form), omega arith, sym form)
 
 returns-3 : tie.Need-returns-3
 returns-3 c = let form = der-three (c .before .before .args .n) (omega arith) (omega arith) in (ap length (sym form), omega arith, sym form)

@@ -14,10 +14,8 @@ use Rattle.tokens.specs.Limits.{placed, bufferAfter}
 use Rattle.tokens.specs.Message.{allOctets}
 use Rattle.tokens.specs.Mic.{micToken}
 use Rattle.tokens.specs.declared.answer.Refusal.the-variants.{Region}
-use Rattle.tokens.specs.declared.context.Context.{Context}
 use Rattle.frame.specs.Framing.{leadLength, frame}
 use Rattle.frame.specs.Mic as Spec
-use Rattle.frame.proofs.Frames.{lead-length}
 use Rattle.frame.proofs.Leads.{frame-size, token-length, frame-placed}
 use Rattle.frame.proofs.mic.framed_mic_write.Statement.{statement}
 use Rattle.frame.proofs.mic.framed_mic_write.Tie as tie

@@ -1,0 +1,59 @@
+-- The laws of this crate's definitions that a crate above may cite.
+use mathlib.Core.Path.{_≡_, sym}
+use mathlib.Core.Bool.{Bool}
+use mathlib.Core.List.{List, _++_}
+use Prim.Native.Nat.{ℕ, _+_, _≤_}
+use lib.ListN.{length}
+use borrow.Author.Tests.{leb-true}
+use Rattle.tokens.proofs.Steps.{require-done, done-same, within-bounds}
+use Rattle.tokens.specs.Answer.{done}
+use Rattle.tokens.specs.Limits.{mostMessage, region}
+use Rattle.tokens.specs.Mic.{micToken, micLength}
+use Rattle.tokens.specs.Wrap.{parts, wrapToken, wrapLength}
+use Rattle.tokens.specs.declared.context.Context.{Context}
+use Rattle.frame.specs.Framing.{leadLength, frame, framingIn, FramesExactly}
+use Rattle.frame.specs.Length.{ShortestForm}
+use Rattle.frame.specs.Mic as Mic
+use Rattle.frame.specs.Wrap as Wrap
+use Rattle.frame.specs.declared.framing.Framing.the-variants.{Token}
+use Rattle.frame.proofs.Frames as Frames
+use Rattle.frame.proofs.Lengths as Lengths
+
+-- ---- The theorems
+
+-- the shortest form of a number is read back, and is the only one so short
+pub shortest-form : (n : ℕ) → ShortestForm n
+shortest-form = Lengths.shortest-form
+
+-- octets are read as a frame exactly when the rule writes them
+pub frames-exactly : (octets : List ℕ) → FramesExactly octets
+frames-exactly = Frames.frames-exactly
+
+-- ---- Frames
+
+pub frame-length : (token : List ℕ) → length (frame token) ≡ leadLength (length token) + length token
+frame-length = Frames.frame-length
+
+-- a frame is read at the front of any octets
+pub frame-read : (token rest : List ℕ) → framingIn (frame token ++ rest) ≡ Token (leadLength (length token)) (length token)
+frame-read = Frames.frame-read
+
+-- ---- What a writer made
+
+module _ {octets : List ℕ} where
+  pub framed-mic-made : (context : Context) (n : ℕ) (text buf : List ℕ) (start : ℕ) → Mic.framedMicWriting context n text buf start ≡ done octets
+      → (length text ≤ mostMessage) × (start + (leadLength micLength + micLength) ≤ length buf) × (octets ≡ frame (micToken context n text))
+  unfolding Mic.framedMicWriting
+  framed-mic-made context n text buf start e =
+      let sized = require-done _ _ _ octets e in
+      let fits = require-done _ _ _ octets (sized .1) in
+      (within-bounds 0 mostMessage (length text) (sized .0) .1, leb-true _ _ (fits .0), sym (done-same (fits .1)))
+
+  pub framed-wrap-made : (context : Context) (sequence : ℕ) (confounder : List ℕ) (sealed : Bool) (buf : List ℕ) (start n : ℕ) → Wrap.framedWrapWriting context sequence confounder sealed buf start n ≡ done octets
+      → (n ≤ mostMessage) × (start + (leadLength (wrapLength n) + wrapLength n) ≤ length buf)
+      × (octets ≡ frame (wrapToken context (parts sequence sealed confounder (region (Wrap.framedMessageAt start n) n buf))))
+  unfolding Wrap.framedWrapWriting
+  framed-wrap-made context sequence confounder sealed buf start n e =
+      let sized = require-done _ _ _ octets e in
+      let fits = require-done _ _ _ octets (sized .1) in
+      (within-bounds 0 mostMessage n (sized .0) .1, leb-true _ _ (fits .0), sym (done-same (fits .1)))

@@ -15,15 +15,15 @@ use Rattle.frame.specs.declared.length.Contents.the-variants.{Counted, W
 
 -- ---- Writing
 
--- the tag, [APPLICATION 0] constructed
+-- the token tag: [APPLICATION 0], constructed, with a definite length after it
 abbrev pub tag : ℕ
 tag = 0x60
 
--- thisMech: the object identifier 1.2.840.113554.1.2.2, with its own tag and length
+-- thisMech: the object identifier of Kerberos, 1.2.840.113554.1.2.2 (RFC 1964, section 1), with its own tag and length
 unfoldable pub mechanism : List ℕ
 mechanism = 0x06 ∷ 0x09 ∷ 0x2a ∷ 0x86 ∷ 0x48 ∷ 0x86 ∷ 0xf7 ∷ 0x12 ∷ 0x01 ∷ 0x02 ∷ 0x02 ∷ []
 
--- what the length counts: the octets of the mechanism, eleven, and those of the token
+-- what the token length counts: the octets of the mechanism, eleven, and those of the token inside
 abbrev pub contents : ℕ → ℕ
 contents n = 11 + n
 

@@ -15,8 +15,8 @@ use Rattle.frame.specs.declared.length.Value.the-variants.{Number, Above
 
 -- ---- The shortest form
 
--- how many octets a number takes with no zero before it, 0 none. The recursion ends with its first argument, and any that is not below
--- the number will do
+-- how many octets a number takes with no zero before it, 0 none (8.1.3.5, in the fewest octets). The recursion ends with its first
+-- argument, and any that is not below the number will do
 unfoldable pub countWithin : ℕ → ℕ → ℕ
 countWithin zero n = zero
 countWithin (suc most) zero = zero
@@ -25,12 +25,13 @@ countWithin (suc most) (suc n) = suc (countWithin most (suc n / 256))
 unfoldable pub octetCount : ℕ → ℕ
 octetCount n = countWithin n n
 
--- the low k octets of a number, the highest first
+-- the low k octets of a number, the highest first (8.1.3.5)
 unfoldable pub highFirst : ℕ → ℕ → List ℕ
 highFirst zero n = []
 highFirst (suc k) n = highFirst k (n / 256) ++ n % 256 ∷ []
 
--- a number below 128 is one octet; any other is 128 and the count of its octets, and then those
+-- section 10.1, the definite form in the fewest octets: a number below 128 is one octet (8.1.3.4); any other is 128 and the count of its
+-- octets, and then those (8.1.3.5)
 unfoldable pub derLength : ℕ → List ℕ
 derLength n = cond (ltb n 128) (n ∷ []) ((128 + octetCount n) ∷ highFirst (octetCount n) n)
 
@@ -45,7 +46,7 @@ valueAfter n (octet ∷ octets) = valueAfter (n * 256 + octet) octets
 abbrev pub upTo : ℕ → ℕ → Value
 upTo most n = cond (leb n most) (Number n) Above
 
--- how many octets the length at the front of some octets takes, by its first
+-- how many octets the length at the front of some octets takes, by its first (8.1.3.4, 8.1.3.5)
 unfoldable pub widthIn : List ℕ → ℕ
 widthIn octets = cond (ltb (getD octets 0 0) 128) 1 (getD octets 0 0 - 127)
 
@@ -62,7 +63,7 @@ contentsIn octets =
 
 -- ---- The shortest form is read back, and is the only one so short
 
--- Octets that are one length, and no more, and say n. 80 is no length: it leaves the end open.
+-- Octets that are one length, and no more, and say n. 80 says no number: it leaves the end open (8.1.3.6).
 pub record Says (octets : List ℕ) (n : ℕ) : Type 0 where
   pub octets-are : Octets octets
   pub closed : getD octets 0 0 ≡ 0x80 → ⊥

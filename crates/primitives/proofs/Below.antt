@@ -2,13 +2,12 @@
 use mathlib.Core.Path.{_≡_, subst, sym}
 use mathlib.Core.Bool.{Bool, true, false, cond}
 use mathlib.Core.List.{List}
-use Prim.Native.Nat.{ℕ, zero, suc, _+_, _*_, _/_, _%_, _<_}
+use Prim.Native.Nat.{ℕ, zero, suc, _<_}
 use native.Mathlib.Decide.{ℕ-discrete}
 use native.Mathlib.Nat.{not-suc-le-zero}
 use native.Mathlib.Omega.{arith}
 use lib.Dec.{T, eqb, eqb→eq, ltb, ltb→lt}
-use lib.ListN.{length, getD}
-use Rattle.primitives.specs.Word.{ByRound}
+use lib.ListN.{getD}
 
 abbrev pub passes : (ℕ → Bool) → ℕ → Bool
 passes test zero = true
@@ -39,14 +38,9 @@ entries rule list n t k h = eqb→eq (getD list k 0) (rule k) (below (λ k. eqb 
 pub bounded : (bound : ℕ) (list : List ℕ) (n : ℕ) → T (passes (λ k. ltb (getD list k 0) bound) n) → (k : ℕ) → k < n → getD list k 0 < bound
 bounded bound list n t k h = ltb→lt (getD list k 0) bound (below (λ k. ltb (getD list k 0) bound) n t k h)
 
--- printed shift amounts are from 1 to 31
-pub amounts : (printed : List ℕ) → T (passes (λ n. cond (ltb 0 (getD printed n 0)) (ltb (getD printed n 0) 32) false) (length printed)) → (n : ℕ) → n < length printed → (0 < getD printed n 0) × (getD printed n 0 < 32)
-amounts printed t n h =
-    let s = getD printed n 0 in
-    let both = below (λ n. cond (ltb 0 (getD printed n 0)) (ltb (getD printed n 0) 32) false) (length printed) t n h in
-    (ltb→lt 0 s (first (ltb 0 s) (ltb s 32) both), ltb→lt s 32 (second (ltb 0 s) (ltb s 32) both))
-
--- a table of shift amounts by round
-pub by-round : (table printed : List ℕ) → T (passes (λ n. eqb (getD printed n 0) (getD table (n / 16 * 4 + n % 4) 0)) (length printed)) → ByRound table printed
-unfolding ByRound
-by-round table printed t n h = sym (entries (λ n. getD table (n / 16 * 4 + n % 4) 0) printed (length printed) t n h)
+-- a list whose entries below n lie between two numbers
+pub between : (low high : ℕ) (list : List ℕ) (n : ℕ) → T (passes (λ k. cond (ltb low (getD list k 0)) (ltb (getD list k 0) high) false) n) → (k : ℕ) → k < n → (low < getD list k 0) × (getD list k 0 < high)
+between low high list n t k h =
+    let x = getD list k 0 in
+    let both = below (λ k. cond (ltb low (getD list k 0)) (ltb (getD list k 0) high) false) n t k h in
+    (ltb→lt low x (first (ltb low x) (ltb x high) both), ltb→lt x high (second (ltb low x) (ltb x high) both))

@@ -4,6 +4,9 @@ use mathlib.Core.List.{List, [], _∷_, _++_}
 use Prim.Native.Nat.{ℕ, _+_, _/_, _%_}
 use lib.ListN.{length}
 use Rattle.primitives.specs.Octets.{Octets, joined, littleEndian}
+use Rattle.primitives.specs.Word.{ShiftRule}
+use Rattle.primitives.specs.Md4 as Md4
+use Rattle.primitives.specs.Md5 as Md5
 use Rattle.primitives.specs.Hash as Hash
 use Rattle.primitives.specs.Hash.{digest}
 use Rattle.primitives.specs.Hmac as Hmac
@@ -13,6 +16,7 @@ use Rattle.primitives.specs.declared.hash.Algorithm.{Algorithm}
 use Rattle.primitives.specs.declared.hash.Hash.{Hash as HashState}
 use Rattle.primitives.specs.declared.hmac.Hmac.{Hmac as HmacState}
 use Rattle.primitives.specs.declared.rc4.Rc4.{Rc4}
+use Rattle.primitives.proofs.Shifts as Shifts
 use Rattle.primitives.proofs.Absorb as Absorb
 use Rattle.primitives.proofs.Parts as Parts
 use Rattle.primitives.proofs.HmacParts as HmacParts
@@ -29,6 +33,13 @@ unfolding littleEndian
 little-endian-four x = refl
 
 -- ---- Digests
+
+-- the shift amounts are four for each round, used in turn
+pub md4-shift-rule : ShiftRule 48 Md4.shiftsByRound Md4.shifts
+md4-shift-rule = Shifts.md4-shift-rule
+
+pub md5-shift-rule : ShiftRule 64 Md5.shiftsByRound Md5.shifts
+md5-shift-rule = Shifts.md5-shift-rule
 
 pub digest-length : (g : Algorithm) (message : List ℕ) → length (digest g message) ≡ 16
 digest-length = Parts.digest-length

@@ -10,4 +10,5 @@ mod LimitsLaws
 mod Padding
 mod Parts
 mod Rounds
+mod Shifts
 mod Xor

@@ -30,12 +30,21 @@ words =
     0 ∷ 8 ∷ 4 ∷ 12 ∷ 2 ∷ 10 ∷ 6 ∷ 14 ∷ 1 ∷ 9 ∷ 5 ∷ 13 ∷ 3 ∷ 11 ∷ 7 ∷ 15 ∷
     []
 
--- the s of each of the 48 operations, as printed
+-- the s of each of the 48 operations, as printed, a line for each round
 unfoldable pub shifts : List ℕ
 shifts =
     3 ∷ 7 ∷ 11 ∷ 19 ∷ 3 ∷ 7 ∷ 11 ∷ 19 ∷ 3 ∷ 7 ∷ 11 ∷ 19 ∷ 3 ∷ 7 ∷ 11 ∷ 19 ∷
     3 ∷ 5 ∷ 9 ∷ 13 ∷ 3 ∷ 5 ∷ 9 ∷ 13 ∷ 3 ∷ 5 ∷ 9 ∷ 13 ∷ 3 ∷ 5 ∷ 9 ∷ 13 ∷
     3 ∷ 9 ∷ 11 ∷ 15 ∷ 3 ∷ 9 ∷ 11 ∷ 15 ∷ 3 ∷ 9 ∷ 11 ∷ 15 ∷ 3 ∷ 9 ∷ 11 ∷ 15 ∷
+    []
+
+-- the same amounts as twelve, four for each round and used in turn: S11 to S34 of the appendix. What MD4 means does not stand on
+-- them: that each pick is the printed amount is `md4-shift-rule` of proofs/Laws.antt
+unfoldable pub shiftsByRound : List (List ℕ)
+shiftsByRound =
+    (3 ∷ 7 ∷ 11 ∷ 19 ∷ []) ∷
+    (3 ∷ 5 ∷ 9 ∷ 13 ∷ []) ∷
+    (3 ∷ 9 ∷ 11 ∷ 15 ∷ []) ∷
     []
 
 -- operation n, counted from 0: a = (a + f(b,c,d) + X[k] + addend) <<< s. The next operation is printed [dabc k s]: what is

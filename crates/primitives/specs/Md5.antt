@@ -30,13 +30,23 @@ words =
     0 ∷ 7 ∷ 14 ∷ 5 ∷ 12 ∷ 3 ∷ 10 ∷ 1 ∷ 8 ∷ 15 ∷ 6 ∷ 13 ∷ 4 ∷ 11 ∷ 2 ∷ 9 ∷
     []
 
--- the s of each of the 64 operations, as printed
+-- the s of each of the 64 operations, as printed, a line for each round
 unfoldable pub shifts : List ℕ
 shifts =
     7 ∷ 12 ∷ 17 ∷ 22 ∷ 7 ∷ 12 ∷ 17 ∷ 22 ∷ 7 ∷ 12 ∷ 17 ∷ 22 ∷ 7 ∷ 12 ∷ 17 ∷ 22 ∷
     5 ∷ 9 ∷ 14 ∷ 20 ∷ 5 ∷ 9 ∷ 14 ∷ 20 ∷ 5 ∷ 9 ∷ 14 ∷ 20 ∷ 5 ∷ 9 ∷ 14 ∷ 20 ∷
     4 ∷ 11 ∷ 16 ∷ 23 ∷ 4 ∷ 11 ∷ 16 ∷ 23 ∷ 4 ∷ 11 ∷ 16 ∷ 23 ∷ 4 ∷ 11 ∷ 16 ∷ 23 ∷
     6 ∷ 10 ∷ 15 ∷ 21 ∷ 6 ∷ 10 ∷ 15 ∷ 21 ∷ 6 ∷ 10 ∷ 15 ∷ 21 ∷ 6 ∷ 10 ∷ 15 ∷ 21 ∷
+    []
+
+-- the same amounts as sixteen, four for each round and used in turn: S11 to S44 of the appendix. What MD5 means does not stand on
+-- them: that each pick is the printed amount is `md5-shift-rule` of proofs/Laws.antt
+unfoldable pub shiftsByRound : List (List ℕ)
+shiftsByRound =
+    (7 ∷ 12 ∷ 17 ∷ 22 ∷ []) ∷
+    (5 ∷ 9 ∷ 14 ∷ 20 ∷ []) ∷
+    (4 ∷ 11 ∷ 16 ∷ 23 ∷ []) ∷
+    (6 ∷ 10 ∷ 15 ∷ 21 ∷ []) ∷
     []
 
 -- T[i] for i from 1 to 64, as the appendix prints them

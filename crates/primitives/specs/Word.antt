@@ -1,8 +1,8 @@
 -- What MD4 and MD5 share of words: RFC 1320 and RFC 1321, sections 2 and 3.4.
 use mathlib.Core.Path.{_≡_}
 use Prim.Native.Nat.{ℕ, zero, suc, _+_, _-_, _*_, _/_, _%_, _^_, _<_}
-use mathlib.Core.List.{List}
-use lib.ListN.{length, getD}
+use mathlib.Core.List.{List, []}
+use lib.ListN.{getD}
 use lib.Bits.{bitAnd, bitOr, bitXor}
 use Rattle.primitives.specs.declared.hash.Words.{Words}
 
@@ -40,6 +40,10 @@ operations operation (suc n) w block = operation n (operations operation n w blo
 abbrev pub addWords : Words → Words → Words
 addWords v w = record { a = add (v .a) (w .a); b = add (v .b) (w .b); c = add (v .c) (w .c); d = add (v .d) (w .d) }
 
--- a table of the shift amounts, four to a round and used in turn: for each operation it has the amount that is printed
-unfoldable pub ByRound : List ℕ → List ℕ → Type 0
-ByRound table printed = (n : ℕ) → n < length printed → getD table (n / 16 * 4 + n % 4) 0 ≡ getD printed n 0
+-- what a table of shift amounts, four for each round, has for operation n: sixteen operations to a round, its four used in turn
+abbrev pub pick : List (List ℕ) → ℕ → ℕ
+pick table n = getD (getD table (n / 16) []) (n % 4) 0
+
+-- the shift rule: at each of the first `count` operations the pick is the amount that is printed
+unfoldable pub ShiftRule : ℕ → List (List ℕ) → List ℕ → Type 0
+ShiftRule count table printed = (n : ℕ) → n < count → pick table n ≡ getD printed n 0

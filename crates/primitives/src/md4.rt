@@ -3,13 +3,13 @@ ghost use mathlib.Core.Path.{_≡_};
 ghost use Prim.Native.Nat.{_+_, _<_, _≤_};
 ghost use lib.ListN.{getD, take, drop};
 ghost use Rattle.primitives.specs.Md4 as Spec;
-ghost use Rattle.primitives.specs.Word.{operations, ByRound};
+ghost use Rattle.primitives.specs.Word.{operations};
 use crate::hash::Words;
 use crate::word;
 use std::num::wrapping_add_u32;
 
-// The shift amounts, four to a round, used in turn.
-const SHIFTS: [u32; 12] = [3, 7, 11, 19, 3, 5, 9, 13, 3, 9, 11, 15];
+// The shift amounts: four for each round, used in turn.
+const SHIFTS: [[u32; 4]; 3] = [[3, 7, 11, 19], [3, 5, 9, 13], [3, 9, 11, 15]];
 
 // The order of the words in round 3.
 const ORDER: [usize; 16] = [0, 8, 4, 12, 2, 10, 6, 14, 1, 9, 5, 13, 3, 11, 7, 15];
@@ -58,9 +58,23 @@ fn place(n: usize, order: &[usize; 16]) -> usize
     }
 }
 
+// The shift amount of operation n, by its round and its turn among the four.
+fn shift(n: usize, shifts: &[[u32; 4]; 3]) -> u32
+    requires { ⌜ (n < 48) × (now shifts ≡ Spec.shiftsByRound) ⌝ }
+    ensures { λ s. ⌜ (s ≡ getD Spec.shifts n 0) × (0 < s) × (s < 32) ⌝ }
+{
+    shifts[n / 16][n % 4]
+}
+
 // Operation n.
-fn operation(n: usize, w: Words, block: &[u8; 64], shifts: &[u32; 12], order: &[usize; 16]) -> Words
-    requires { ⌜ (n < 48) × ByRound (now shifts) Spec.shifts × (now order ≡ take 16 (drop 32 Spec.words)) ⌝ }
+fn operation(
+    n: usize,
+    w: Words,
+    block: &[u8; 64],
+    shifts: &[[u32; 4]; 3],
+    order: &[usize; 16],
+) -> Words
+    requires { ⌜ (n < 48) × (now shifts ≡ Spec.shiftsByRound) × (now order ≡ take 16 (drop 32 Spec.words)) ⌝ }
     ensures { λ r. ⌜ r ≡ Spec.operation n w (now (block .entry)) ⌝ }
 {
     let round = n / 16;
@@ -69,15 +83,15 @@ fn operation(n: usize, w: Words, block: &[u8; 64], shifts: &[u32; 12], order: &[
     let g = wrapping_add_u32(f, addend(round));
     Words {
         a: w.d,
-        b: word::rotate_left(g, shifts[round * 4 + n % 4]),
+        b: word::rotate_left(g, shift(n, shifts)),
         c: w.b,
         d: w.c,
     }
 }
 
 // The four operations from n.
-fn four(n: usize, w: Words, block: &[u8; 64], shifts: &[u32; 12], order: &[usize; 16]) -> Words
-    requires { ⌜ (n + 4 ≤ 48) × ByRound (now shifts) Spec.shifts × (now order ≡ take 16 (drop 32 Spec.words)) ⌝ }
+fn four(n: usize, w: Words, block: &[u8; 64], shifts: &[[u32; 4]; 3], order: &[usize; 16]) -> Words
+    requires { ⌜ (n + 4 ≤ 48) × (now shifts ≡ Spec.shiftsByRound) × (now order ≡ take 16 (drop 32 Spec.words)) ⌝ }
     ensures { λ r. ⌜ ((o : Words) → w ≡ operations Spec.operation n o (now (block .entry)) → r ≡ operations Spec.operation (n + 4) o (now (block .entry))) ⌝ }
 {
     let a = operation(n, w, block, shifts, order);
@@ -87,8 +101,8 @@ fn four(n: usize, w: Words, block: &[u8; 64], shifts: &[u32; 12], order: &[usize
 }
 
 // The round of sixteen operations from n.
-fn round(n: usize, w: Words, block: &[u8; 64], shifts: &[u32; 12], order: &[usize; 16]) -> Words
-    requires { ⌜ (n + 16 ≤ 48) × ByRound (now shifts) Spec.shifts × (now order ≡ take 16 (drop 32 Spec.words)) ⌝ }
+fn round(n: usize, w: Words, block: &[u8; 64], shifts: &[[u32; 4]; 3], order: &[usize; 16]) -> Words
+    requires { ⌜ (n + 16 ≤ 48) × (now shifts ≡ Spec.shiftsByRound) × (now order ≡ take 16 (drop 32 Spec.words)) ⌝ }
     ensures { λ r. ⌜ ((o : Words) → w ≡ operations Spec.operation n o (now (block .entry)) → r ≡ operations Spec.operation (n + 16) o (now (block .entry))) ⌝ }
 {
     let a = four(n, w, block, shifts, order);

@@ -3,7 +3,7 @@ ghost use mathlib.Core.Path.{_≡_};
 ghost use Prim.Native.Nat.{_+_, _<_, _≤_};
 ghost use lib.ListN.{getD};
 ghost use Rattle.primitives.specs.Md5 as Spec;
-ghost use Rattle.primitives.specs.Word.{operations, ByRound};
+ghost use Rattle.primitives.specs.Word.{operations};
 use crate::hash::Words;
 use crate::word;
 use std::num::wrapping_add_u32;
@@ -76,8 +76,13 @@ const ADDENDS: [u32; 64] = [
     0xeb86d391,
 ];
 
-// The shift amounts, four to a round, used in turn.
-const SHIFTS: [u32; 16] = [7, 12, 17, 22, 5, 9, 14, 20, 4, 11, 16, 23, 6, 10, 15, 21];
+// The shift amounts: four for each round, used in turn.
+const SHIFTS: [[u32; 4]; 4] = [
+    [7, 12, 17, 22],
+    [5, 9, 14, 20],
+    [4, 11, 16, 23],
+    [6, 10, 15, 21],
+];
 
 // G(X,Y,Z) = XZ v Y not(Z).
 fn aux_g(x: u32, y: u32, z: u32) -> u32
@@ -120,16 +125,30 @@ fn place(n: usize) -> usize
     }
 }
 
+// The shift amount of operation n, by its round and its turn among the four.
+fn shift(n: usize, shifts: &[[u32; 4]; 4]) -> u32
+    requires { ⌜ (n < 64) × (now shifts ≡ Spec.shiftsByRound) ⌝ }
+    ensures { λ s. ⌜ (s ≡ getD Spec.shifts n 0) × (0 < s) × (s < 32) ⌝ }
+{
+    shifts[n / 16][n % 4]
+}
+
 // Operation n.
-fn operation(n: usize, w: Words, block: &[u8; 64], addends: &[u32; 64], shifts: &[u32; 16]) -> Words
-    requires { ⌜ (n < 64) × (now addends ≡ Spec.addends) × ByRound (now shifts) Spec.shifts ⌝ }
+fn operation(
+    n: usize,
+    w: Words,
+    block: &[u8; 64],
+    addends: &[u32; 64],
+    shifts: &[[u32; 4]; 4],
+) -> Words
+    requires { ⌜ (n < 64) × (now addends ≡ Spec.addends) × (now shifts ≡ Spec.shiftsByRound) ⌝ }
     ensures { λ r. ⌜ r ≡ Spec.operation n w (now (block .entry)) ⌝ }
 {
     let round = n / 16;
     let e = wrapping_add_u32(w.a, auxiliary(round, w.b, w.c, w.d));
     let f = wrapping_add_u32(e, word::word_at(block, place(n)));
     let g = wrapping_add_u32(f, addends[n]);
-    let h = word::rotate_left(g, shifts[round * 4 + n % 4]);
+    let h = word::rotate_left(g, shift(n, shifts));
     Words {
         a: w.d,
         b: wrapping_add_u32(w.b, h),
@@ -139,8 +158,8 @@ fn operation(n: usize, w: Words, block: &[u8; 64], addends: &[u32; 64], shifts: 
 }
 
 // The four operations from n.
-fn four(n: usize, w: Words, block: &[u8; 64], addends: &[u32; 64], shifts: &[u32; 16]) -> Words
-    requires { ⌜ (n + 4 ≤ 64) × (now addends ≡ Spec.addends) × ByRound (now shifts) Spec.shifts ⌝ }
+fn four(n: usize, w: Words, block: &[u8; 64], addends: &[u32; 64], shifts: &[[u32; 4]; 4]) -> Words
+    requires { ⌜ (n + 4 ≤ 64) × (now addends ≡ Spec.addends) × (now shifts ≡ Spec.shiftsByRound) ⌝ }
     ensures { λ r. ⌜ ((o : Words) → w ≡ operations Spec.operation n o (now (block .entry)) → r ≡ operations Spec.operation (n + 4) o (now (block .entry))) ⌝ }
 {
     let a = operation(n, w, block, addends, shifts);
@@ -150,8 +169,8 @@ fn four(n: usize, w: Words, block: &[u8; 64], addends: &[u32; 64], shifts: &[u32
 }
 
 // The round of sixteen operations from n.
-fn round(n: usize, w: Words, block: &[u8; 64], addends: &[u32; 64], shifts: &[u32; 16]) -> Words
-    requires { ⌜ (n + 16 ≤ 64) × (now addends ≡ Spec.addends) × ByRound (now shifts) Spec.shifts ⌝ }
+fn round(n: usize, w: Words, block: &[u8; 64], addends: &[u32; 64], shifts: &[[u32; 4]; 4]) -> Words
+    requires { ⌜ (n + 16 ≤ 64) × (now addends ≡ Spec.addends) × (now shifts ≡ Spec.shiftsByRound) ⌝ }
     ensures { λ r. ⌜ ((o : Words) → w ≡ operations Spec.operation n o (now (block .entry)) → r ≡ operations Spec.operation (n + 16) o (now (block .entry))) ⌝ }
 {
     let a = four(n, w, block, addends, shifts);

@@ -1,24 +1,15 @@
--- One operation: the sums in the printed order, and the amount read by round.
+-- One operation: the sums in the printed order, rotated by the printed amount.
 use mathlib.Core.Path.{ap, ap₂, _∙_}
 use Prim.Native.Nat.{ℕ}
-use Rattle.primitives.specs.Word.{add, rotateLeft, wordAt, ByRound}
+use Rattle.primitives.specs.Word.{add, rotateLeft, wordAt}
 use Rattle.primitives.specs.Md4 as Md4
 use Rattle.primitives.specs.declared.hash.Words.{Words}
-use Rattle.primitives.proofs.Below.{amounts}
 use borrow.Author.Needs.{needs}
-use native.Mathlib.Omega.{arith}
 use Rattle.primitives.proofs.md4.operation.Statement.{statement}
 use Rattle.primitives.proofs.md4.operation.Tie as tie
 
-rotate-left-requires : tie.Need-rotate-left-requires
-unfolding Md4.shifts ByRound
-rotate-left-requires c κs =
-    let start = c .before .before .before .before .before .before .before .before in
-    let n = start .args .n in
-    rw (start .pre .1 n (omega arith)) (amounts Md4.shifts tt n (omega arith))
-
 returns : tie.Need-returns
-unfolding Md4.operation Md4.shifts ByRound
+unfolding Md4.operation
 returns c =
     let at = c .before .before .before .before in
     let start = at .before .before .before .before .before in
@@ -29,7 +20,7 @@ returns c =
     let f = at .wrapping-add-u322 .ensures ∙ ap₂ add e x in
     let g = c .before .before .wrapping-add-u323 .ensures ∙ ap₂ add f (c .before .before .before .addend .ensures) in
     let next : ℕ → Words = λ b. record { a = w .d; b = b; c = w .b; d = w .c } in
-    ap next (c .rotate-left .ensures ∙ ap₂ rotateLeft g (start .pre .1 n (omega arith)))
+    ap next (c .rotate-left .ensures ∙ ap₂ rotateLeft g (c .before .shift .ensures .0))
 
 pub operation-spec : {M : Type 1} → statement M
-operation-spec = tie.close (tie.spec (λ c κs. search needs) (λ c κs. search needs) (λ c κs. search needs) (λ c κs. search needs) (λ c κs. search needs) (λ c κs. search needs) (λ c κs. search needs) (λ c. search needs) (λ c. search needs) (λ c. search needs) (λ c. search needs) rotate-left-requires returns)
+operation-spec = tie.close (tie.spec (λ c κs. search needs) (λ c κs. search needs) (λ c κs. search needs) (λ c κs. search needs) (λ c κs. search needs) (λ c κs. search needs) (λ c κs. search needs) (λ c κs. search needs) (λ c κs. search needs) returns)

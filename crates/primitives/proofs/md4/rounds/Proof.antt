@@ -1,9 +1,8 @@
--- Round by round, with the tables that are lent: the order of the third round as printed, and the amounts by round.
+-- Round by round, with the tables that are lent: the order of the third round as printed, and the shift amounts by round.
 use mathlib.Core.Path.{_≡_, refl}
 use Prim.Native.Nat.{_≤_, _-_, _%_}
 use Rattle.primitives.specs.Word.{operations}
 use Rattle.primitives.specs.Md4 as Md4
-use Rattle.primitives.proofs.Below.{by-round}
 use borrow.Author.Needs.{needs}
 use native.Mathlib.Omega.{arith}
 use Rattle.primitives.proofs.md4.rounds.Statement.{statement}
@@ -20,8 +19,8 @@ unfolding operations
 loop-holds c = (search needs, refl, refl)
 
 round-requires : tie.Need-round-requires Inv-loop μ-loop
-unfolding Md4.shifts Md4.words
-round-requires c κs = (omega arith, by-round _ Md4.shifts tt, refl)
+unfolding Md4.shiftsByRound Md4.words
+round-requires c κs = (omega arith, refl, refl)
 
 loop-again : tie.Need-loop-again Inv-loop μ-loop
 loop-again c = (omega arith, omega arith, c .round .ensures (c .before .before .before .before .before .args .w) (c .before .before .before .before .loop .inv .2))

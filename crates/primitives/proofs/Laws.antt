@@ -34,7 +34,7 @@ little-endian-four x = refl
 
 -- ---- Digests
 
--- the shift amounts are four for each round, used in turn
+-- the printed shift amounts are four for each round, used in turn
 pub md4-shift-rule : ShiftRule 48 Md4.shiftsByRound Md4.shifts
 md4-shift-rule = Shifts.md4-shift-rule
 

@@ -116,6 +116,12 @@ module _ (octets : List ℕ) (before n : ℕ) where
           record { width = w; before-is = sym eb; first = f; counted = ec ∙ ap (Counted w) ev; named = same-true _ _ (b .1) }
       by Wrong ec f e = absurd (fault-token before n e)
 
+  -- all of it is there
+  pub all-there : framingIn octets ≡ Token before n → before + n ≤ length octets
+  all-there e =
+      let s = seen e in
+      omega (arith, counts (drop 1 octets) (s .width) (contents n) (s .counted) .there, length-drop 1 octets, s .before-is)
+
   whole-seen : framing octets ≡ Token before n → (framingIn octets ≡ Token before n) × (before + n ≡ length octets)
   unfolding framing wholeOf
   whole-seen e = by (framingIn octets) refl e

@@ -11,11 +11,14 @@ use Rattle.tokens.specs.Limits.{mostMessage, region}
 use Rattle.tokens.specs.Mic.{micToken, micLength}
 use Rattle.tokens.specs.Wrap.{parts, wrapToken, wrapLength}
 use Rattle.tokens.specs.declared.context.Context.{Context}
+use Rattle.frame.specs.Capture.{nextFrame}
 use Rattle.frame.specs.Framing.{leadLength, frame, framingIn, FramesExactly}
 use Rattle.frame.specs.Length.{ShortestForm}
 use Rattle.frame.specs.Mic as Mic
 use Rattle.frame.specs.Wrap as Wrap
+use Rattle.frame.specs.declared.capture.Next.the-variants as next
 use Rattle.frame.specs.declared.framing.Framing.the-variants.{Token}
+use Rattle.frame.proofs.Captures as Captures
 use Rattle.frame.proofs.Frames as Frames
 use Rattle.frame.proofs.Lengths as Lengths
 
@@ -37,6 +40,10 @@ frame-length = Frames.frame-length
 -- a frame is read at the front of any octets
 pub frame-read : (token rest : List ℕ) → framingIn (frame token ++ rest) ≡ Token (leadLength (length token)) (length token)
 frame-read = Frames.frame-read
+
+-- and so is told apart from whatever follows it in a capture
+pub frame-next : (token rest : List ℕ) (last : Bool) → nextFrame (frame token ++ rest) last ≡ next.Frame (length (frame token))
+frame-next = Captures.frame-next
 
 -- ---- What a writer made
 

@@ -3,5 +3,6 @@ pub mod Laws
 mod Lengths
 mod Contents
 mod Frames
+mod Captures
 mod Leads
 mod Regions

@@ -1,6 +1,8 @@
--- What the contracts of `frame` cite: the length of DER, the outer frame of RFC 2743, and framed MIC and Wrap tokens.
+-- What the contracts of `frame` cite: the length of DER, the outer frame of RFC 2743, frames one after the other, and framed
+-- MIC and Wrap tokens.
 pub mod Length
 pub mod Framing
+pub mod Capture
 pub mod Answer
 pub mod Mic
 pub mod Wrap

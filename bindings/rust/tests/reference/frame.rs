@@ -80,3 +80,13 @@ pub fn read_lead(region: &[u8]) -> Option<usize> {
     let token = rest.strip_prefix(&MECHANISM)?;
     Some(region.len() - token.len())
 }
+
+/// The whole frame that a capture begins with.
+pub fn first_frame(capture: &[u8]) -> Option<&[u8]> {
+    let (number, rest) = split_length(capture.strip_prefix(&[TAG])?)?;
+    if number > rest.len() as u128 {
+        return None;
+    }
+    let region = &capture[..capture.len() - rest.len() + number as usize];
+    read_lead(region).map(|_| region)
+}

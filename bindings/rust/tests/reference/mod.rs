@@ -1,7 +1,8 @@
 //! The second program: MD4, MD5, HMAC-MD5, RC4 and the keys, checksums,
 //! encrypted messages and tokens of RFC 4757 and the frame of RFC 2743 written
 //! from their published texts alone, and a clerk for receive windows, for the
-//! library to be compared with, and the inputs for that.
+//! library to be compared with, the inputs for that, and the lines that `krbtoken`
+//! prints.
 
 // Each test file uses its own share of this module.
 #![allow(dead_code, unused_imports)]
@@ -19,6 +20,7 @@ mod message;
 pub mod outcomes;
 mod padding;
 mod password;
+pub mod printed;
 mod rc4;
 pub mod receive_outcomes;
 mod token;
@@ -30,7 +32,9 @@ mod window_inputs;
 pub use checksum::checksum;
 pub use clerk::Clerk;
 pub use faults::{fault_sets, first, Faults};
-pub use frame::{der_length, frame, frame_with, lead, long_form, read_lead, MECHANISM, TAG};
+pub use frame::{
+    der_length, first_frame, frame, frame_with, lead, long_form, read_lead, MECHANISM, TAG,
+};
 pub use hmac::hmac_md5;
 pub use inputs::{counting, Inputs, OVER_MESSAGE};
 pub use md4::md4;

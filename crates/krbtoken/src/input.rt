@@ -1,0 +1,85 @@
+// What is read: standard input and files, to their ends.
+ghost use Rattle.io.specs.Counts.{Counts};
+use crate::exit::Exit;
+use crate::output;
+
+// Octets of a buffer for a token, a message or data: one more than the most that is read.
+pub const BUFFER: usize = 65537;
+
+// How reading ended: with the input, with the buffer, or with a fault.
+pub enum Ending {
+    Whole,
+    Full,
+    Failed,
+}
+
+// How many octets were read, and how that ended.
+pub struct Input {
+    pub count: usize,
+    pub ending: Ending,
+}
+
+// Reads until the input ends or the buffer is full.
+pub fn read(fd: i32, buf: &mut [u8]) -> Input
+    ensures { λ r. ⌜ Counts (r .count) (now (buf .exit)) ⌝ }
+{
+    let mut n: usize = 0;
+    while n < buf.len() {
+        let got = libc::read(fd, &mut buf[n..]);
+        let more = io::count(got, &buf[n..]);
+        if more == 0 {
+            return Input {
+                count: n,
+                ending: ending_of(got),
+            };
+        }
+        n += more;
+    }
+    Input {
+        count: n,
+        ending: Ending::Full,
+    }
+}
+
+// How a read that gave no octets ended.
+fn ending_of(got: isize) -> Ending {
+    if got < 0 {
+        return Ending::Failed;
+    }
+    Ending::Whole
+}
+
+// Whether standard input was read to its end, of at most 65,536 octets; if not, says so.
+pub fn is_whole(ending: Ending) -> bool {
+    match ending {
+        Ending::Whole => true,
+        Ending::Full => {
+            output::wrong_use(b"standard input is too long: expected at most 65536 octets");
+            false
+        }
+        Ending::Failed => {
+            unreadable();
+            false
+        }
+    }
+}
+
+// Says that standard input can't be read.
+pub fn unreadable() -> Exit {
+    os::fail(b"krbtoken: standard input can't be read");
+    Exit::WrongUse
+}
+
+// How many octets a text has without one closing newline.
+pub fn without_newline(text: &[u8]) -> usize
+    ensures { λ r. ⌜ Counts r (now (text .entry)) ⌝ }
+{
+    let n = text.len();
+    if n == 0 {
+        return 0;
+    }
+    if text[n - 1] == b'\n' {
+        return n - 1;
+    }
+    n
+}

@@ -1,0 +1,108 @@
+// What is written: results on standard output, refusals there too, and wrong use on standard error.
+use crate::exit::Exit;
+use crate::line::Line;
+use libc::STDERR_FILENO;
+use libc::STDOUT_FILENO;
+use text::hex;
+use tokens::answer::Refusal;
+use tokens::answer::Status;
+use tokens::checks;
+
+// Digits of the longest region that is written in hexadecimal.
+const MOST_DIGITS: usize = 131072;
+
+// Says on standard error what is wrong and what was expected.
+pub fn wrong_use(what: &[u8]) -> Exit {
+    Line::new()
+        .text(b"krbtoken: ")
+        .text(what)
+        .write(STDERR_FILENO);
+    Exit::WrongUse
+}
+
+// Whether all was written; if not, says so.
+fn written(done: bool) -> Exit {
+    if done {
+        return Exit::Done;
+    }
+    os::fail(b"krbtoken: standard output can't be written");
+    Exit::WrongUse
+}
+
+// Writes a line.
+pub fn line(line: Line) -> Exit {
+    written(line.write(STDOUT_FILENO))
+}
+
+// What a refusal number means, after the line so far.
+pub fn meaning(line: Line, number: u32) -> Line {
+    match number {
+        1 => line.text(b"a length is outside the limits"),
+        2 => line.text(b"the region does not lie inside the buffer"),
+        3 => line.text(b"the usage is not 1 to 15"),
+        4 => line.text(b"the first eight octets are not a header of this kind of token"),
+        5 => line.text(
+            b"the direction octets are not those of the expected sender; a wrong key or strength shows so too",
+        ),
+        6 => line.text(b"the checksum differs"),
+        7 => line.text(b"the last octet of the opened token is not 01"),
+        _ => line.text(b"not one whole frame"),
+    }
+}
+
+// A refusal in words, after the line so far.
+pub fn refusal(line: Line, number: u32) -> Line {
+    meaning(
+        line.text(b"refused ").number(number as u64).text(b": "),
+        number,
+    )
+}
+
+// Writes the line of a refusal.
+pub fn refused(number: u32) -> Exit {
+    let Exit::Done = self::line(refusal(Line::new(), number)) else {
+        return Exit::WrongUse;
+    };
+    Exit::Refused
+}
+
+// Writes the octets of a region as they are.
+pub fn region(buf: &[u8], start: usize, n: usize) -> Exit {
+    let Status::Done = checks::region(start, n, buf.len()) else {
+        return refused(Refusal::Region.number());
+    };
+    let end = start + n;
+    written(io::write_all(STDOUT_FILENO, &buf[start..end]))
+}
+
+// Writes octets in hexadecimal and a newline, and answers whether all was written.
+fn write_digits(octets: &[u8]) -> bool {
+    let mut digits = [0u8; MOST_DIGITS];
+    let n = hex::encode(octets, &mut digits);
+    if io::write_all(STDOUT_FILENO, &digits[..n]) {
+        return io::write_all(STDOUT_FILENO, b"\n");
+    }
+    false
+}
+
+// Writes a line of octets in hexadecimal.
+pub fn digits(octets: &[u8]) -> Exit {
+    written(write_digits(octets))
+}
+
+// Writes a line: a name and, after a blank, the octets of a region in hexadecimal. If there are none, there is no blank.
+pub fn named_digits(name: &[u8], buf: &[u8], start: usize, n: usize) -> Exit {
+    if n == 0 {
+        return line(Line::new().text(name));
+    }
+    let Status::Done = checks::region(start, n, buf.len()) else {
+        return refused(Refusal::Region.number());
+    };
+    let end = start + n;
+    if io::write_all(STDOUT_FILENO, name) {
+        if io::write_all(STDOUT_FILENO, b" ") {
+            return digits(&buf[start..end]);
+        }
+    }
+    written(false)
+}

@@ -181,14 +181,6 @@ fn refill(buf: &mut [u8], at: usize, end: usize) -> Refilled
     }
 }
 
-// Whether reading ended with the capture.
-fn is_whole(ending: Ending) -> bool {
-    if let Ending::Whole = ending {
-        return true;
-    }
-    false
-}
-
 // Whether nothing can be read after the octets from `at` to `end` of a buffer: the capture has ended, or they fill the buffer.
 fn is_last(ended: bool, at: usize, end: usize, size: usize) -> bool {
     if ended {
@@ -232,7 +224,7 @@ fn bill_input(context: Context, begun: Billing, buf: &mut [u8]) -> Exit
                 }
                 at = 0;
                 end = refilled.end;
-                ended = is_whole(ending);
+                ended = input::is_whole(ending);
             }
             Next::End => return totals(bill),
             Next::Fault => return fault(bill),

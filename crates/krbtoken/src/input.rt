@@ -2,6 +2,7 @@
 ghost use Rattle.io.specs.Counts.{Counts};
 use crate::exit::Exit;
 use crate::output;
+use libc::STDIN_FILENO;
 
 // Octets of a buffer for a token, a message or data: one more than the most that is read.
 pub const BUFFER: usize = 65537;
@@ -17,6 +18,12 @@ pub enum Ending {
 pub struct Input {
     pub count: usize,
     pub ending: Ending,
+}
+
+// How many octets of standard input were read, and whether these are all.
+pub struct StandardInput {
+    pub count: usize,
+    pub is_whole: bool,
 }
 
 // Reads until the input ends or the buffer is full.
@@ -41,6 +48,14 @@ pub fn read(fd: i32, buf: &mut [u8]) -> Input
     }
 }
 
+// Whether reading ended with the input.
+pub fn is_whole(ending: Ending) -> bool {
+    if let Ending::Whole = ending {
+        return true;
+    }
+    false
+}
+
 // How a read that gave no octets ended.
 fn ending_of(got: isize) -> Ending {
     if got < 0 {
@@ -49,25 +64,28 @@ fn ending_of(got: isize) -> Ending {
     Ending::Whole
 }
 
-// Whether standard input was read to its end, of at most 65,536 octets; if not, says so.
-pub fn is_whole(ending: Ending) -> bool {
-    match ending {
-        Ending::Whole => true,
-        Ending::Full => {
-            output::wrong_use(b"standard input is too long: expected at most 65536 octets");
-            false
-        }
-        Ending::Failed => {
-            unreadable();
-            false
-        }
-    }
-}
-
 // Says that standard input can't be read.
 pub fn unreadable() -> Exit {
     os::fail(b"krbtoken: standard input can't be read");
     Exit::WrongUse
+}
+
+// Reads standard input, of at most 65,536 octets, and if that can't be done says so.
+pub fn standard(buf: &mut [u8]) -> StandardInput
+    ensures { λ r. ⌜ Counts (r .count) (now (buf .exit)) ⌝ }
+{
+    let input = read(STDIN_FILENO, buf);
+    let ending = input.ending;
+    if let Ending::Full = ending {
+        output::wrong_use(b"standard input is too long: expected at most 65536 octets");
+    }
+    if let Ending::Failed = ending {
+        unreadable();
+    }
+    StandardInput {
+        count: input.count,
+        is_whole: is_whole(ending),
+    }
 }
 
 // How many octets a text has without one closing newline.

@@ -64,9 +64,8 @@ pub fn checksum(at: usize) -> Exit
         return Exit::WrongUse;
     };
     let mut buf = [0u8; input::BUFFER];
-    let read = input::read(STDIN_FILENO, &mut buf);
-    let ending = read.ending;
-    if !input::is_whole(ending) {
+    let read = input::standard(&mut buf);
+    if !read.is_whole {
         return Exit::WrongUse;
     }
     let count = read.count;

@@ -6,7 +6,6 @@ use crate::exit::Exit;
 use crate::input;
 use crate::line::Line;
 use crate::output;
-use libc::STDIN_FILENO;
 use text::decimal::Number;
 use text::words::StrengthWord;
 use tokens::answer::Extent;
@@ -26,9 +25,8 @@ fn encrypt_input(
 ) -> Exit
     requires { ⌜ 24 ≤ length (now buf) ⌝ }
 {
-    let read = input::read(STDIN_FILENO, &mut buf[message::OVERHEAD..]);
-    let ending = read.ending;
-    if !input::is_whole(ending) {
+    let read = input::standard(&mut buf[message::OVERHEAD..]);
+    if !read.is_whole {
         return Exit::WrongUse;
     }
     let n = read.count;
@@ -72,9 +70,8 @@ fn print_data(buf: &[u8], n: usize) -> Exit {
 // Decrypts standard input.
 fn decrypt_input(key: [u8; 16], strength: Strength, usage: u32) -> Exit {
     let mut buf = [0u8; input::BUFFER];
-    let read = input::read(STDIN_FILENO, &mut buf);
-    let ending = read.ending;
-    if !input::is_whole(ending) {
+    let read = input::standard(&mut buf);
+    if !read.is_whole {
         return Exit::WrongUse;
     }
     let n = read.count;

@@ -9,7 +9,6 @@ use crate::line::Line;
 use crate::output;
 use frame::answer::FramedSequence;
 use frame::mic as framed_mic;
-use libc::STDIN_FILENO;
 use text::decimal::Number;
 use tokens::answer::Extent;
 use tokens::answer::Sequence;
@@ -30,9 +29,8 @@ fn write(context: Context, sequence: u32, framed: bool, data: &[u8], buf: &mut [
 // Writes the token over standard input.
 fn mic_input(context: Context, sequence: u32, framed: bool) -> Exit {
     let mut data = [0u8; input::BUFFER];
-    let read = input::read(STDIN_FILENO, &mut data);
-    let ending = read.ending;
-    if !input::is_whole(ending) {
+    let read = input::standard(&mut data);
+    if !read.is_whole {
         return Exit::WrongUse;
     }
     let n = read.count;
@@ -82,9 +80,8 @@ fn print(answer: FramedSequence) -> Exit {
 // Reads the token over standard input.
 fn verify_input(context: Context, framed: bool, token: &[u8]) -> Exit {
     let mut data = [0u8; input::BUFFER];
-    let read = input::read(STDIN_FILENO, &mut data);
-    let ending = read.ending;
-    if !input::is_whole(ending) {
+    let read = input::standard(&mut data);
+    if !read.is_whole {
         return Exit::WrongUse;
     }
     let n = read.count;

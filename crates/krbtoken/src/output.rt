@@ -8,7 +8,7 @@ use tokens::answer::Refusal;
 use tokens::answer::Status;
 use tokens::checks;
 
-// Digits of the longest region that is written in hexadecimal.
+// Digits of the longest input that is read.
 const MOST_DIGITS: usize = 131072;
 
 // Says on standard error what is wrong and what was expected.

@@ -9,7 +9,6 @@ use crate::line::Line;
 use crate::output;
 use frame::answer::FramedUnwrapped;
 use frame::wrap as framed_wrap;
-use libc::STDIN_FILENO;
 use text::decimal::Number;
 use text::words::SealingWord;
 use tokens::answer::Extent;
@@ -79,9 +78,8 @@ fn write(
 fn wrap_input(context: Context, parts: Parts, framed: bool, buf: &mut [u8]) -> Exit
     requires { ⌜ 64 ≤ length (now buf) ⌝ }
 {
-    let read = input::read(STDIN_FILENO, &mut buf[MESSAGE_AT..]);
-    let ending = read.ending;
-    if !input::is_whole(ending) {
+    let read = input::standard(&mut buf[MESSAGE_AT..]);
+    if !read.is_whole {
         return Exit::WrongUse;
     }
     let n = read.count;
@@ -163,9 +161,8 @@ fn print_record(buf: &[u8], n: usize, sequence: u32, sealed: bool, length: usize
 // Opens standard input.
 fn open_input(context: Context, framed: bool) -> Exit {
     let mut buf = [0u8; input::BUFFER];
-    let read = input::read(STDIN_FILENO, &mut buf);
-    let ending = read.ending;
-    if !input::is_whole(ending) {
+    let read = input::standard(&mut buf);
+    if !read.is_whole {
         return Exit::WrongUse;
     }
     let n = read.count;

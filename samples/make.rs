@@ -1,8 +1,6 @@
 //! Writes the samples into the folder that is named: what a kiln sends in a
-//! morning, and what `krbtoken` must print of it, by the second program alone.
-
-#[path = "../bindings/rust/tests/reference/mod.rs"]
-mod reference;
+//! morning, and what `krbtoken` must print of it, with the reference
+//! implementation alone.
 
 use std::path::Path;
 use std::{env, fs, io};

@@ -1,12 +1,11 @@
 //! The second program, and then the library, on messages and a checksum that
 //! are attributed to the tests of MIT krb5.
 
-mod calls;
-mod reference;
-mod vectors;
+mod data;
 
-use reference::{must_be_octets, Outcome, Terms, HEADER};
-use vectors::{array, krb5, octets};
+use data::{array, krb5, octets};
+use reference::{Outcome, Terms, HEADER};
+use support::{calls, must_be_octets};
 
 /// The confounders are not given: opening tells them.
 fn check_messages(

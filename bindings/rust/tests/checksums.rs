@@ -1,10 +1,8 @@
 //! Keyed checksums of the library beside the second program's, and their test.
 
-mod calls;
-mod reference;
-
 use rc4hmac::{Refusal, Usage};
-use reference::{counting, message_type, Inputs, USAGES};
+use reference::{message_type, USAGES};
+use support::{calls, counting, Inputs};
 
 fn compare(key: &[u8; 16], usage: u32, data: &[u8]) {
     let expected = reference::checksum(key, usage, data);

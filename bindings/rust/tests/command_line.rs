@@ -2,7 +2,6 @@
 //! verb.
 
 mod command;
-mod reference;
 
 use std::fs::{self, File};
 use std::process::Command;

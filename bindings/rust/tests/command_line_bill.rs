@@ -1,10 +1,10 @@
 //! `krbtoken bill`: every status and every refusal of a token in a capture.
 
 mod command;
-mod reference;
 
 use command::{check_bill, run, Scratch};
-use reference::{fault_sets, frame, Faults, Inputs, TokenTerms, Wrap};
+use reference::{frame, TokenTerms, Wrap};
+use support::{fault_sets, AllTerms, Faults, Inputs, RandomWrap};
 
 const TERMS: TokenTerms = TokenTerms {
     key: [0x4b; 16],

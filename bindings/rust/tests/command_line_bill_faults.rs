@@ -2,11 +2,11 @@
 //! captures that are cut off.
 
 mod command;
-mod reference;
 
 use command::{check_bill, run, token_words, Scratch};
 use reference::printed::billed;
-use reference::{frame, frame_with, long_form, Inputs, TokenTerms, Wrap, MECHANISM};
+use reference::{frame, frame_with, long_form, TokenTerms, Wrap, MECHANISM};
+use support::Inputs;
 
 const TERMS: TokenTerms = TokenTerms {
     key: [0xb4; 16],

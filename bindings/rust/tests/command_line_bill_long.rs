@@ -2,11 +2,11 @@
 //! filled again and again, and captures that come in pieces.
 
 mod command;
-mod reference;
 
 use command::{check_bill, check_bill_in_pieces};
 use reference::printed::billed;
-use reference::{frame, Clerk, Faults, Inputs, TokenTerms, Wrap};
+use reference::{frame, Clerk, TokenTerms, Wrap};
+use support::{AllTerms, Faults, Inputs, RandomWrap};
 
 /// The longest frame of a token, and the program's buffer: four of them.
 const LARGEST: usize = 32_816;

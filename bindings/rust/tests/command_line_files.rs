@@ -2,7 +2,6 @@
 //! taken, how long they may be, and what is said of those that can't be used.
 
 mod command;
-mod reference;
 
 use std::fs::{self, File};
 

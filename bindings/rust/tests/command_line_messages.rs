@@ -1,11 +1,11 @@
 //! `krbtoken encrypt`, `decrypt` and `checksum`, beside the second program.
 
 mod command;
-mod reference;
 
 use command::{message_words, run, Scratch};
 use reference::printed::{decrypted, digits, hexadecimal};
-use reference::{checksum, Inputs, Terms, HEADER, USAGES};
+use reference::{checksum, Terms, HEADER, USAGES};
+use support::{AllTerms, Inputs};
 
 const LENS: [usize; 5] = [0, 1, 5, 300, 32_768];
 

@@ -2,7 +2,6 @@
 //! are taken.
 
 mod command;
-mod reference;
 
 use command::{calls, run, Call, Scratch};
 use reference::checksum;

@@ -2,11 +2,11 @@
 //! own UTF-16.
 
 mod command;
-mod reference;
 
 use command::{run, Run};
+use reference::password_key;
 use reference::printed::digits;
-use reference::{password_key, Inputs};
+use support::Inputs;
 
 const NOT_UTF_8: &str = "the password is wrong: expected UTF-8";
 const TOO_LONG: &str = "standard input is too long: expected at most 1024 octets";

@@ -2,12 +2,10 @@
 //! status.
 
 mod command;
-mod reference;
 
 use command::{message_words, run, token_words, Scratch};
-use reference::{
-    fault_sets, first, frame, lead, Faults, Inputs, Terms, TokenTerms, Wrap, FRONT, MIC,
-};
+use reference::{frame, lead, Terms, TokenTerms, Wrap, FRONT, MIC};
+use support::{fault_sets, first, AllTerms, Faults, Inputs, RandomWrap};
 
 const MESSAGE_MAX: usize = 32_768;
 const OVER: [usize; 4] = [MESSAGE_MAX + 1, MESSAGE_MAX + 2, 40_000, 65_536];

@@ -2,7 +2,6 @@
 //! word is echoed, since one may be a key by mistake.
 
 mod command;
-mod reference;
 
 use command::{calls, run, Call, Run, Scratch};
 use reference::printed::hexadecimal;

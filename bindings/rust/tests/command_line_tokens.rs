@@ -2,13 +2,12 @@
 //! is the second program's, octet for octet, and its tokens are read exactly.
 
 mod command;
-mod reference;
 
 use command::{run, token_words, Scratch};
-use reference::frame_outcomes;
 use reference::printed::{hexadecimal, opened, verified};
 use reference::token_outcomes::{self, Reading};
-use reference::{frame, Inputs, TokenTerms, Wrap};
+use reference::{frame, frame_outcomes, TokenTerms, Wrap};
+use support::{AllTerms, Inputs, RandomWrap};
 
 const LENS: [usize; 5] = [0, 1, 5, 300, 32_768];
 const FORMS: [bool; 2] = [false, true];

@@ -2,7 +2,6 @@
 //! told, alone.
 
 mod command;
-mod reference;
 
 use command::{calls, run, Call, Scratch, USAGES};
 

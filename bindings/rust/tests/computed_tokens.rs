@@ -1,14 +1,12 @@
 //! The second program, and then the library, on tokens that other programs
 //! computed.
 
-mod calls;
-mod programs;
-mod reference;
-mod vectors;
+mod data;
 
-use programs::{Program, LIBRARY, REFERENCE};
-use reference::{md5, must_be_octets, TokenTerms, Wrap, FRONT};
-use vectors::{computed, octets, tokens};
+use data::{computed, octets, tokens};
+use reference::{md5, TokenTerms, Wrap, FRONT};
+use support::must_be_octets;
+use support::programs::{Program, LIBRARY, REFERENCE};
 
 const SEQUENCE: u32 = 16_909_060;
 
@@ -29,7 +27,16 @@ fn wrap(sequence: u32, sealed: bool, message: &[u8]) -> Wrap {
     }
 }
 
-impl Program {
+/// The checks of the reference implementation and of the library.
+trait Checks {
+    fn mic(&self, terms: &TokenTerms, data: &[u8]) -> Vec<u8>;
+    fn wrap(&self, terms: &TokenTerms, wrap: &Wrap) -> Vec<u8>;
+    fn check_mics(&self);
+    fn check_wraps(&self);
+    fn check_long_wraps(&self);
+}
+
+impl Checks for Program {
     /// The MIC of `data`, and that it is read.
     fn mic(&self, terms: &TokenTerms, data: &[u8]) -> Vec<u8> {
         let written = (self.mic_write)(terms, SEQUENCE, data, &[0; 24], 0);

@@ -1,12 +1,11 @@
 //! The second program, and then the library, on values that other programs
 //! computed.
 
-mod calls;
-mod reference;
-mod vectors;
+mod data;
 
-use reference::{must_be_octets, outcomes, Outcome, Terms, HEADER, USAGES};
-use vectors::{computed, octets};
+use data::{computed, octets};
+use reference::{outcomes, Outcome, Terms, HEADER, USAGES};
+use support::{calls, must_be_octets};
 
 /// The refusal number and the octets written.
 type Answer = (u32, [u8; 16]);

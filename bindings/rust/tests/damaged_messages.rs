@@ -1,11 +1,9 @@
 //! Messages that the key, strength and usage at hand did not make: all are
 //! refused with 6, and every octet stays.
 
-mod calls;
-mod reference;
-
 use rc4hmac::{Refusal, Strength, Usage};
-use reference::{message_type, must_be_octets, Inputs, Outcome, Terms, HEADER, USAGES};
+use reference::{message_type, Outcome, Terms, HEADER, USAGES};
+use support::{calls, must_be_octets, AllTerms, Inputs, MustBe};
 
 #[track_caller]
 fn check_refused(terms: &Terms, message: &[u8], what: impl std::fmt::Debug) {

@@ -1,12 +1,10 @@
 //! Tokens with damaged octets: for each place the refusal that the rules give,
 //! or another sequence number where nothing protects it. Every octet stays.
 
-mod calls;
-mod reference;
-
-use calls::context;
 use rc4hmac::Refusal;
-use reference::{must_be_octets, token_outcomes, Inputs, Reading, TokenTerms, Wrap, MIC};
+use reference::{token_outcomes, Reading, TokenTerms, Wrap, MIC};
+use support::calls::{self, context};
+use support::{must_be_octets, AllTerms, Inputs, MustBe, RandomWrap};
 
 /// Every bit, and several at once.
 const DAMAGES: [u8; 10] = [0x01, 0x02, 0x04, 0x08, 0x10, 0x20, 0x40, 0x80, 0xff, 0xa5];

@@ -1,9 +1,7 @@
 //! MD4 and MD5 of the library beside the second program's.
 
-mod reference;
-
 use rc4hmac::Refusal;
-use reference::{counting, Inputs};
+use support::{counting, Inputs};
 
 struct Algorithm {
     library: fn(&[u8]) -> Result<[u8; 16], Refusal>,

@@ -1,10 +1,8 @@
 //! Whole encrypted messages of the library beside the second program's.
 
-mod calls;
-mod reference;
-
 use rc4hmac::{Strength, Usage};
-use reference::{counting, must_be_octets, Inputs, Terms, HEADER};
+use reference::{Terms, HEADER};
+use support::{calls, counting, must_be_octets, AllTerms, Inputs};
 
 fn strength(terms: &Terms) -> Strength {
     if terms.export {

@@ -1,18 +1,13 @@
 //! What the calls for framed tokens do to the areas lent to them, where they
 //! differ from those for tokens: regions that are no frame, and the lead.
 
-mod areas;
-mod calls;
-mod lent;
-mod programs;
-mod reference;
-
-use areas::{walled, Guarded, Walled};
-use calls::Flags;
-use lent::Lent;
-use programs::FRAMED;
 use rc4hmac::raw;
-use reference::{frame_outcomes, must_be_octets, Inputs, TokenTerms, Wrap};
+use reference::{frame_outcomes, TokenTerms, Wrap};
+use support::areas::{walled, Guarded, Walled};
+use support::calls::Flags;
+use support::lent::Lent;
+use support::programs::FRAMED;
+use support::{must_be_octets, AllTerms, Inputs, RandomWrap};
 
 /// A region that is no frame, by each of its octets.
 #[test]

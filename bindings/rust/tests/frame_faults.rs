@@ -1,16 +1,11 @@
 //! Frames with damaged octets, cut off, made longer, with another mechanism or
 //! none: for each the refusal that the rules give, and every octet stays.
 
-mod calls;
-mod programs;
-mod reference;
-
-use calls::context;
-use programs::FRAMED;
 use rc4hmac::Refusal;
-use reference::{
-    der_length, frame, lead, must_be_octets, Inputs, Reading, TokenTerms, Wrap, MECHANISM,
-};
+use reference::{der_length, frame, lead, Reading, TokenTerms, Wrap, MECHANISM};
+use support::calls::{self, context};
+use support::programs::FRAMED;
+use support::{must_be_octets, AllTerms, Inputs, MustBe, RandomWrap};
 
 /// Bits, and several at once.
 const DAMAGES: [u8; 6] = [0x01, 0x08, 0x40, 0x80, 0xa5, 0xff];

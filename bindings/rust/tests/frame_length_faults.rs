@@ -2,12 +2,9 @@
 //! ending where the region ends. Only the length is wrong, and it is refused
 //! with 9.
 
-mod calls;
-mod programs;
-mod reference;
-
-use programs::FRAMED;
-use reference::{der_length, frame, frame_with, long_form, Inputs, TokenTerms, Wrap};
+use reference::{der_length, frame, frame_with, long_form, TokenTerms, Wrap};
+use support::programs::FRAMED;
+use support::{AllTerms, Inputs, RandomWrap};
 
 /// Lengths of messages on both sides of each form, and the longest.
 const LENS: [usize; 12] = [0, 1, 20, 82, 83, 84, 85, 210, 211, 212, 213, 32_768];

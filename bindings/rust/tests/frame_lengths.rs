@@ -1,16 +1,13 @@
 //! The lengths in frames as they are written, and the lead that follows from
 //! them.
 
-mod calls;
-mod programs;
-mod reference;
-
-use programs::{framed_wrap_lead, FRAMED};
 use rc4hmac::{limits, Refusal, FRAMED_MIC_LEN};
 use reference::{
-    der_length, frame, frame_with, lead, long_form, must_be_octets, read_lead, Inputs, TokenTerms,
-    Wrap, FRONT, MECHANISM, OVER_MESSAGE, TAG,
+    der_length, frame, frame_with, lead, long_form, read_lead, TokenTerms, Wrap, FRONT, MECHANISM,
+    TAG,
 };
+use support::programs::{framed_wrap_lead, FRAMED};
+use support::{calls, must_be_octets, AllTerms, Inputs, RandomWrap, OVER_MESSAGE};
 
 /// The lengths of messages and how their frames begin.
 const WRAPS: [(usize, &[u8]); 9] = [

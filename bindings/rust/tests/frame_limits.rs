@@ -1,17 +1,11 @@
 //! Every limit of a framed token's length, and of a message's and a MIC's data,
 //! from both sides, and what a refusal leaves. A region has no limit of its own.
 
-mod calls;
-mod programs;
-mod reference;
-
-use calls::context;
-use programs::FRAMED;
 use rc4hmac::{limits, Refusal};
-use reference::{
-    frame, must_be_octets, Inputs, Outcome, Reading, TokenTerms, Wrap, OVER_MESSAGE,
-    WRAP_MESSAGE_TYPE,
-};
+use reference::{frame, Outcome, Reading, TokenTerms, Wrap, WRAP_MESSAGE_TYPE};
+use support::calls::context;
+use support::programs::FRAMED;
+use support::{must_be_octets, AllTerms, Inputs, MustBe, RandomWrap, OVER_MESSAGE};
 
 #[test]
 fn mics_take_data_of_32_768_octets_and_refuse_more() {

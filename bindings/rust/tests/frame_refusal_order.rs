@@ -2,17 +2,11 @@
 //! faults: writing 1, then 2; reading 2, then 9, then the token's own, 1 first.
 //! Each call leaves every octet and writes zeros.
 
-mod calls;
-mod programs;
-mod reference;
-
-use calls::context;
-use programs::FRAMED;
 use rc4hmac::Refusal;
-use reference::{
-    fault_sets, first, frame, frame_with, long_form, must_be_octets, Faults, Inputs, Outcome,
-    Reading, TokenTerms, Wrap, PAD,
-};
+use reference::{frame, frame_with, long_form, Outcome, Reading, TokenTerms, Wrap, PAD};
+use support::calls::context;
+use support::programs::FRAMED;
+use support::{fault_sets, first, must_be_octets, AllTerms, Faults, Inputs, MustBe, RandomWrap};
 
 /// Starts outside a buffer of 40,000 octets; with the lengths here some sums
 /// come out small if they wrap.

@@ -1,14 +1,11 @@
 //! The regions of framed tokens where they differ from those of tokens: a reader
 //! is told how long its region is, and looks at that first.
 
-mod calls;
-mod programs;
-mod reference;
-
-use calls::context;
-use programs::FRAMED;
 use rc4hmac::Refusal;
-use reference::{frame, Inputs, Outcome, Reading, TokenTerms, Wrap};
+use reference::{frame, Outcome, Reading, TokenTerms, Wrap};
+use support::calls::context;
+use support::programs::FRAMED;
+use support::{AllTerms, Inputs, MustBe, RandomWrap};
 
 /// A reader's region is looked at before anything else, a writer's after the
 /// message's length.

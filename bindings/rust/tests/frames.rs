@@ -1,14 +1,11 @@
 //! Whole framed tokens, MIC and Wrap, of the library beside the second
 //! program's.
 
-mod calls;
-mod programs;
-mod reference;
-
-use calls::context;
-use programs::{framed_wrap_lead, FRAMED};
 use rc4hmac::Opened;
-use reference::{frame, lead, must_be_octets, Inputs, TokenTerms, Wrap, FRONT, PAD};
+use reference::{frame, lead, TokenTerms, Wrap, FRONT, PAD};
+use support::calls::{self, context};
+use support::programs::{framed_wrap_lead, FRAMED};
+use support::{must_be_octets, AllTerms, Inputs, MustBe, RandomWrap};
 
 const SEQUENCES: [u32; 4] = [0, 1, 1 << 31, u32::MAX];
 

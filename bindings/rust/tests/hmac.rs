@@ -1,8 +1,6 @@
 //! HMAC-MD5 of the library beside the second program's.
 
-mod reference;
-
-use reference::{counting, Inputs};
+use support::{counting, Inputs};
 
 fn compare(key: &[u8], text: &[u8]) {
     assert_eq!(

@@ -2,17 +2,15 @@
 //! wrote, whole in their frames and out of them: each is opened, written again
 //! octet for octet, and refused where it should be.
 
-mod calls;
-mod programs;
-mod reference;
-mod vectors;
+mod data;
 
-use calls::context;
-use programs::{Program, FRAMED_LIBRARY, FRAMED_REFERENCE, LIBRARY, REFERENCE};
+use data::implementations::{heimdal, mit_krb5, Kind, Token};
 use rc4hmac::{Context, Opened, Refusal, Window};
 use reference::clerk::{DUPLICATE, GAP, IN_ORDER};
-use reference::{must_be_octets, read_lead, Clerk, Reading, TokenTerms, Wrap, PAD};
-use vectors::implementations::{heimdal, mit_krb5, Kind, Token};
+use reference::{read_lead, Clerk, Reading, TokenTerms, Wrap, PAD};
+use support::calls::context;
+use support::programs::{Program, FRAMED_LIBRARY, FRAMED_REFERENCE, LIBRARY, REFERENCE};
+use support::{must_be_octets, MustBe};
 
 const KINDS: [Kind; 3] = [Kind::Mic, Kind::Sealed, Kind::Clear];
 
@@ -116,7 +114,14 @@ impl Sent {
     }
 }
 
-impl Program {
+/// The checks of the reference implementation and of the library.
+trait Checks {
+    fn read(&self, kind: Kind, terms: &TokenTerms, data: &[u8], token: &[u8]) -> Reading;
+    fn check_opened_and_written_again(&self, sent: fn(Token) -> Sent);
+    fn check_refused(&self, sent: fn(Token) -> Sent);
+}
+
+impl Checks for Program {
     fn read(&self, kind: Kind, terms: &TokenTerms, data: &[u8], token: &[u8]) -> Reading {
         match kind {
             Kind::Mic => (self.mic_read)(terms, data, token, 0, token.len()),

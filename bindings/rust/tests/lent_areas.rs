@@ -1,14 +1,11 @@
 //! What the library does to the areas lent to it and to the octets around
 //! them: alignment, guard octets, unmapped pages, empty areas, threads.
 
-mod areas;
-mod reference;
-
 use std::thread;
 
-use areas::{empty_pointers, Guarded, Walled, SIDES};
 use rc4hmac::raw;
-use reference::Inputs;
+use support::areas::{empty_pointers, Guarded, Walled, SIDES};
+use support::Inputs;
 
 type RawDigest = unsafe extern "C" fn(*const u8, usize, *mut [u8; 16]) -> u32;
 type Digest = fn(&[u8]) -> [u8; 16];

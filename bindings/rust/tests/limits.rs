@@ -1,10 +1,8 @@
 //! Every limit of the digests', HMAC's and RC4's lengths from both sides, and
 //! what a refusal leaves.
 
-mod reference;
-
 use rc4hmac::{limits, raw, Refusal};
-use reference::Inputs;
+use support::Inputs;
 
 /// What digest areas hold before a call.
 const BEFORE: [u8; 16] = [0xa5; 16];

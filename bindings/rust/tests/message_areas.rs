@@ -2,14 +2,12 @@
 //! lent to them and to the octets around them: alignment, guard octets,
 //! unmapped pages, empty areas, threads.
 
-mod areas;
-mod reference;
-
 use std::thread;
 
-use areas::{empty_pointers, Guarded, Walled, SIDES};
 use rc4hmac::{raw, Strength, Usage};
-use reference::{must_be_octets, outcomes, Inputs, Outcome, Terms, HEADER};
+use reference::{outcomes, Outcome, Terms, HEADER};
+use support::areas::{empty_pointers, Guarded, Walled, SIDES};
+use support::{must_be_octets, Inputs};
 
 /// Lengths of data below, at and over a block of MD5.
 const LENS: [usize; 9] = [0, 1, 16, 39, 40, 47, 48, 64, 1000];

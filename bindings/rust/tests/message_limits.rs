@@ -1,11 +1,9 @@
 //! Every limit of a checksum's and a message's length from both sides, and
 //! what a refusal leaves.
 
-mod calls;
-mod reference;
-
 use rc4hmac::{Refusal, Strength, Usage};
-use reference::{must_be_octets, outcomes, Inputs, Outcome, Terms, HEADER, OVER_MESSAGE};
+use reference::{outcomes, Outcome, Terms, HEADER};
+use support::{calls, must_be_octets, Inputs, MustBe, OVER_MESSAGE};
 
 fn terms(inputs: &mut Inputs, export: bool) -> Terms {
     Terms {

@@ -1,13 +1,9 @@
 //! Whole MIC tokens of the library beside the second program's.
 
-mod calls;
-mod reference;
-
-use calls::context;
 use rc4hmac::MIC_LEN;
-use reference::{
-    counting, must_be_octets, token_outcomes, Inputs, Reading, TokenTerms, MIC, MIC_HEADER,
-};
+use reference::{token_outcomes, Reading, TokenTerms, MIC, MIC_HEADER};
+use support::calls::{self, context};
+use support::{counting, must_be_octets, AllTerms, Inputs, MustBe};
 
 const SEQUENCES: [u32; 4] = [0, 1, 1 << 31, u32::MAX];
 

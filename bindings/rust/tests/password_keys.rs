@@ -1,10 +1,7 @@
 //! Keys of passwords of the library beside the second program's.
 
-mod calls;
-mod reference;
-
 use rc4hmac::Refusal;
-use reference::Inputs;
+use support::{calls, Inputs};
 
 fn compare(units: &[u16]) {
     let expected = reference::password_key(units);

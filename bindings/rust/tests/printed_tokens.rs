@@ -1,8 +1,6 @@
 //! The tokens, messages and checksums that the program `refusals` prints,
 //! computed anew by the second program. Its other lines are not looked at.
 
-mod reference;
-
 use std::fs;
 
 use reference::{checksum, md5, Terms, TokenTerms, Wrap};

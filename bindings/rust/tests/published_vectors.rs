@@ -1,9 +1,8 @@
 //! The second program, and then the library, on published vectors.
 
-mod reference;
-mod vectors;
+mod data;
 
-use vectors::{octets, rfc6229, Hmac, MD4_DIGESTS, MD5_DIGESTS, MESSAGES};
+use data::{octets, rfc6229, Hmac, MD4_DIGESTS, MD5_DIGESTS, MESSAGES};
 
 type Digest = [u8; 16];
 
@@ -49,9 +48,9 @@ fn library_rc4(key: &[u8], data: &[u8]) -> Vec<u8> {
 }
 
 fn check_password_key(password_key: impl Fn(&[u16]) -> Digest) {
-    let units: Vec<u16> = vectors::PASSWORD.encode_utf16().collect();
+    let units: Vec<u16> = data::PASSWORD.encode_utf16().collect();
     let key = password_key(&units);
-    assert!(key[..] == octets(vectors::PASSWORD_KEY));
+    assert!(key[..] == octets(data::PASSWORD_KEY));
 }
 
 #[test]
@@ -66,12 +65,12 @@ fn reference_md5_gives_the_digests_of_rfc_1321() {
 
 #[test]
 fn reference_hmac_md5_gives_the_digests_of_rfc_2104() {
-    check_hmac(reference::hmac_md5, &vectors::rfc2104());
+    check_hmac(reference::hmac_md5, &data::rfc2104());
 }
 
 #[test]
 fn reference_hmac_md5_gives_the_digests_of_rfc_2202() {
-    check_hmac(reference::hmac_md5, &vectors::rfc2202());
+    check_hmac(reference::hmac_md5, &data::rfc2202());
 }
 
 #[test]
@@ -93,7 +92,7 @@ fn library_md5_gives_the_digests_of_rfc_1321() {
 fn library_hmac_md5_gives_the_digests_of_rfc_2104() {
     check_hmac(
         |key, text| rc4hmac::hmac_md5(key, text).unwrap(),
-        &vectors::rfc2104(),
+        &data::rfc2104(),
     );
 }
 
@@ -101,7 +100,7 @@ fn library_hmac_md5_gives_the_digests_of_rfc_2104() {
 fn library_hmac_md5_gives_the_digests_of_rfc_2202() {
     check_hmac(
         |key, text| rc4hmac::hmac_md5(key, text).unwrap(),
-        &vectors::rfc2202(),
+        &data::rfc2202(),
     );
 }
 

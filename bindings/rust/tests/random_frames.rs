@@ -1,12 +1,9 @@
 //! Octets at random as framed tokens, with more and more of a frame right: the
 //! second program's outcome for each.
 
-mod calls;
-mod programs;
-mod reference;
-
-use programs::FRAMED;
-use reference::{der_length, frame, frame_with, long_form, Inputs, TokenTerms, Wrap, PAD};
+use reference::{der_length, frame, frame_with, long_form, TokenTerms, Wrap, PAD};
+use support::programs::FRAMED;
+use support::{AllTerms, Inputs, RandomWrap};
 
 /// How many of each kind.
 const TRIES: usize = 2_000;

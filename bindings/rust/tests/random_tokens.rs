@@ -1,12 +1,8 @@
 //! Octets at random as tokens, with more and more of a token right: the second
 //! program's outcome for each.
 
-mod calls;
-mod reference;
-
-use reference::{
-    token_outcomes, Inputs, TokenTerms, Wrap, CLEAR_HEADER, MIC_HEADER, PAD, SEALED_HEADER,
-};
+use reference::{token_outcomes, TokenTerms, Wrap, CLEAR_HEADER, MIC_HEADER, PAD, SEALED_HEADER};
+use support::{calls, AllTerms, Inputs, MustBe, RandomWrap};
 
 /// How many of each kind.
 const TRIES: usize = 2_000;

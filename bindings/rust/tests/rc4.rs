@@ -1,8 +1,6 @@
 //! RC4 of the library beside the second program's.
 
-mod reference;
-
-use reference::{counting, Inputs};
+use support::{counting, Inputs};
 
 fn compare(key: &[u8], data: &[u8]) {
     let mut combined = data.to_vec();

@@ -1,11 +1,9 @@
 //! Whole sessions: sealed, clear and empty Wrap tokens and MICs that the second
 //! program writes come out of order, again and damaged, beside the clerk.
 
-mod calls;
-mod reference;
-
 use reference::clerk::{is_billed, STATUS_NAMES};
-use reference::{token_outcomes, window, Clerk, Inputs, Receipt, TokenTerms, Words, Wrap, MIC};
+use reference::{token_outcomes, window, Clerk, Receipt, TokenTerms, Words, Wrap, MIC};
+use support::{calls, AllTerms, Inputs, MustBe, RandomWrap};
 
 const FIRSTS: [u32; 4] = [0, 1 << 31, u32::MAX - 2, 77];
 

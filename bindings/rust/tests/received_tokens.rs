@@ -1,12 +1,10 @@
 //! Tokens that are opened and billed in one call: the second program's outcome
 //! for each, the number that a token presents, and the flags.
 
-mod calls;
-mod reference;
-
-use calls::Flags;
 use reference::clerk::{DUPLICATE, IN_ORDER, STATUS_NAMES};
-use reference::{receive_outcomes, Inputs, Receipt, TokenTerms, Words, Wrap};
+use reference::{receive_outcomes, Receipt, TokenTerms, Words, Wrap};
+use support::calls::{self, Flags};
+use support::{AllTerms, Inputs, MustBe, RandomWrap};
 
 #[track_caller]
 fn check_wrap(words: Words, terms: &TokenTerms, buf: &[u8], start: usize, len: usize) -> Receipt {

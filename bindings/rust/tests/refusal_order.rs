@@ -1,10 +1,8 @@
 //! Which refusal is given where several apply: the lowest number, for every
 //! set of faults. Each call leaves every octet and writes zeros.
 
-mod calls;
-mod reference;
-
-use reference::{fault_sets, first, must_be_octets, Inputs, Outcome, Terms, HEADER};
+use reference::{Outcome, Terms, HEADER};
+use support::{calls, fault_sets, first, must_be_octets, Inputs, MustBe};
 
 const WRONG_USAGES: [u32; 4] = [0, 16, 256, u32::MAX];
 

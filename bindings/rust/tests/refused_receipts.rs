@@ -1,13 +1,11 @@
 //! Refused tokens never reach the window: each refusal of the two calls that
 //! open and bill leaves window and buffer as they came, and writes zeros.
 
-mod calls;
-mod reference;
-
-use calls::context;
 use rc4hmac::{Refusal, Status, Window};
 use reference::clerk::{IN_ORDER, LATE};
-use reference::{fault_sets, first, Inputs, Receipt, TokenTerms, Wrap, PAD};
+use reference::{Receipt, TokenTerms, Wrap, PAD};
+use support::calls::{self, context};
+use support::{fault_sets, first, AllTerms, Inputs, MustBe, RandomWrap};
 
 /// The refusal number, the buffer, the start and the length.
 type Case = (u32, Vec<u8>, usize, usize);

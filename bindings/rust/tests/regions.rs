@@ -1,11 +1,9 @@
 //! Where a message stands in the lent buffer: at its start, in the middle, at
 //! its end and past it, and starts and lengths near the largest number.
 
-mod calls;
-mod reference;
-
 use rc4hmac::{Refusal, Strength, Usage};
-use reference::{must_be_octets, outcomes, Inputs, Outcome, Terms, HEADER};
+use reference::{outcomes, Outcome, Terms, HEADER};
+use support::{calls, must_be_octets, AllTerms, Inputs, MustBe};
 
 fn terms(inputs: &mut Inputs, export: bool) -> Terms {
     Terms {

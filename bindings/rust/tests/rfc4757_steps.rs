@@ -1,17 +1,13 @@
 //! Tokens with one step as RFC 4757, section 7, prints it where tokens are sent
 //! otherwise, or with something near to it: that step alone has them refused.
 
-mod calls;
-mod programs;
-mod reference;
-
 use std::ops::Range;
 
-use programs::{LIBRARY, REFERENCE};
 use reference::{
-    hmac_md5, rc4, Inputs, Reading, TokenTerms, Wrap, MIC_HEADER, MIC_MESSAGE_TYPE, PAD,
-    WRAP_MESSAGE_TYPE,
+    hmac_md5, rc4, Reading, TokenTerms, Wrap, MIC_HEADER, MIC_MESSAGE_TYPE, PAD, WRAP_MESSAGE_TYPE,
 };
+use support::programs::{LIBRARY, REFERENCE};
+use support::{calls, AllTerms, Inputs, MustBe, RandomWrap};
 
 const SEQUENCE: u32 = 0x0102_0304;
 

@@ -1,13 +1,11 @@
 //! The safe window: its methods do as the calls do, and take areas that share
 //! octets.
 
-mod calls;
-mod reference;
-
-use calls::context;
 use rc4hmac::{Refusal, Status, Window};
 use reference::clerk::is_billed;
-use reference::{receive_outcomes, window, Inputs, TokenTerms, Wrap, MIC};
+use reference::{receive_outcomes, window, TokenTerms, Wrap, MIC};
+use support::calls::{self, context};
+use support::{AllTerms, Inputs, RandomWrap};
 
 #[test]
 fn the_safe_window_does_as_the_calls_do() {

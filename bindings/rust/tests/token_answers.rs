@@ -1,14 +1,11 @@
 //! The numbers that go in and out of the token calls: any number but 0 is yes,
 //! with the frame too, sealed comes out as 1 or 0, and a refusal writes zeros over what was there.
 
-mod calls;
-mod programs;
-mod reference;
-
-use calls::Flags;
-use programs::FORMS;
 use rc4hmac::raw;
-use reference::{must_be_octets, Inputs, TokenTerms, Wrap, PAD};
+use reference::{TokenTerms, Wrap, PAD};
+use support::calls::Flags;
+use support::programs::FORMS;
+use support::{must_be_octets, AllTerms, Inputs, RandomWrap};
 
 const YES: [u32; 12] = [
     1,

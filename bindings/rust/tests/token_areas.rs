@@ -2,19 +2,14 @@
 //! them and to the octets around them: alignment, guard octets, unmapped pages,
 //! empty areas, threads.
 
-mod areas;
-mod calls;
-mod lent;
-mod programs;
-mod reference;
-
 use std::thread;
 
-use areas::{empty_pointers, walled, Walled, SIDES};
-use calls::{context, Flags};
-use lent::Lent;
-use programs::{Form, FORMS, FRAMED};
-use reference::{must_be_octets, Inputs, TokenTerms, Wrap, PAD};
+use reference::{TokenTerms, Wrap, PAD};
+use support::areas::{empty_pointers, walled, Walled, SIDES};
+use support::calls::{context, Flags};
+use support::lent::Lent;
+use support::programs::{Form, FORMS, FRAMED};
+use support::{must_be_octets, AllTerms, Inputs, RandomWrap};
 
 /// Lengths of a message below, at and over a block of MD5, and on both sides of
 /// each longer form of a frame's length.

@@ -1,13 +1,10 @@
 //! Tokens with another SGN_CKSUM, under which SND_SEQ and the body come out
 //! right: nothing but the comparison of the whole checksum finds it, with 6.
 
-mod calls;
-mod reference;
-
 use reference::{
-    hmac_md5, md5, Inputs, Reading, TokenTerms, Wrap, MIC_HEADER, MIC_MESSAGE_TYPE, PAD,
-    WRAP_MESSAGE_TYPE,
+    hmac_md5, md5, Reading, TokenTerms, Wrap, MIC_HEADER, MIC_MESSAGE_TYPE, PAD, WRAP_MESSAGE_TYPE,
 };
+use support::{calls, AllTerms, Inputs, MustBe, RandomWrap};
 
 const LENS: [usize; 3] = [0, 5, 60];
 

@@ -1,13 +1,11 @@
 //! The eight header octets: another kind's, another algorithm's, another
 //! filler. All are refused with 4, whatever else the token holds.
 
-mod calls;
-mod reference;
-
 use reference::{
-    token_outcomes, Inputs, Reading, TokenTerms, Wrap, CLEAR_HEADER, MIC_HEADER, MIC_MESSAGE_TYPE,
-    PAD, SEALED_HEADER, WRAP_MESSAGE_TYPE,
+    token_outcomes, Reading, TokenTerms, Wrap, CLEAR_HEADER, MIC_HEADER, MIC_MESSAGE_TYPE, PAD,
+    SEALED_HEADER, WRAP_MESSAGE_TYPE,
 };
+use support::{calls, AllTerms, Inputs, MustBe, RandomWrap};
 
 /// Headers that are near to those of a token, but are none.
 const OTHERS: [[u8; 8]; 14] = [

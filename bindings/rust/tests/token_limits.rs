@@ -1,15 +1,12 @@
 //! Every limit of a token's, a message's and a MIC's data length from both
 //! sides, and what a refusal leaves.
 
-mod calls;
-mod reference;
-
-use calls::context;
 use rc4hmac::Refusal;
 use reference::{
-    must_be_octets, token_outcomes, Inputs, Outcome, Reading, TokenTerms, Wrap, FRONT, MIC,
-    OVER_MESSAGE, WRAP_MESSAGE_TYPE,
+    token_outcomes, Outcome, Reading, TokenTerms, Wrap, FRONT, MIC, WRAP_MESSAGE_TYPE,
 };
+use support::calls::{self, context};
+use support::{must_be_octets, AllTerms, Inputs, MustBe, RandomWrap, OVER_MESSAGE};
 
 #[test]
 fn mics_take_data_of_32_768_octets_and_refuse_more() {

@@ -1,12 +1,10 @@
 //! The last octet of a Wrap token: refused with 7 if it was signed as another
 //! than 01, and the only octet that is looked at for that.
 
-mod calls;
-mod reference;
-
-use calls::context;
 use rc4hmac::Refusal;
-use reference::{must_be_octets, token_outcomes, Inputs, Reading, TokenTerms, Wrap, PAD};
+use reference::{token_outcomes, Reading, TokenTerms, Wrap, PAD};
+use support::calls::{self, context};
+use support::{must_be_octets, AllTerms, Inputs, MustBe, RandomWrap};
 
 const LENS: [usize; 5] = [0, 1, 5, 35, 100];
 

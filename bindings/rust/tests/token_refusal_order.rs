@@ -2,10 +2,8 @@
 //! number, for every set of faults. Each call leaves every octet and writes
 //! zeros.
 
-mod calls;
-mod reference;
-
-use reference::{fault_sets, first, Faults, Inputs, Outcome, Reading, TokenTerms, Wrap, PAD};
+use reference::{Outcome, Reading, TokenTerms, Wrap, PAD};
+use support::{calls, fault_sets, first, AllTerms, Faults, Inputs, MustBe, RandomWrap};
 
 /// Starts outside a buffer of 40,000 octets; with the lengths here some sums
 /// come out small if they wrap.

@@ -2,14 +2,11 @@
 //! start, in the middle, at its end and past it, and starts and lengths near the
 //! largest number.
 
-mod calls;
-mod programs;
-mod reference;
-
-use calls::context;
-use programs::{Form, FORMS, TOKENS};
 use rc4hmac::Refusal;
-use reference::{Inputs, Outcome, Reading, TokenTerms, Wrap};
+use reference::{Outcome, Reading, TokenTerms, Wrap};
+use support::calls::context;
+use support::programs::{Form, FORMS, TOKENS};
+use support::{AllTerms, Inputs, MustBe, RandomWrap};
 
 /// Lengths of messages, on both sides of each longer form of a frame's length
 /// too.

@@ -1,12 +1,8 @@
 //! The fifteen usages by name and by number, and every number beside them.
 
-mod calls;
-mod reference;
-
 use rc4hmac::Usage;
-use reference::{
-    message_type, must_be_octets, outcomes, salt, Inputs, Outcome, Terms, HEADER, USAGES,
-};
+use reference::{message_type, outcomes, salt, Outcome, Terms, HEADER, USAGES};
+use support::{calls, must_be_octets, Inputs, MustBe};
 
 /// In the order of the list in RFC 4757, section 3.
 const NAMED: [Usage; 15] = [

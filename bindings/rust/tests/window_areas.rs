@@ -1,15 +1,10 @@
 //! What the window calls do to the areas lent to them and to the guard octets
 //! around them, at every alignment.
 
-mod areas;
-mod calls;
-mod reference;
-
-use areas::Guarded;
 use rc4hmac::raw;
-use reference::{
-    must_be_octets, receive_outcomes, window, Inputs, Receipt, TokenTerms, Words, Wrap, MIC,
-};
+use reference::{receive_outcomes, window, Receipt, TokenTerms, Words, Wrap, MIC};
+use support::areas::Guarded;
+use support::{must_be_octets, AllTerms, Inputs, RandomWrap};
 
 fn octets_of(words: Words) -> Vec<u8> {
     words.map(u64::to_ne_bytes).concat()

@@ -1,16 +1,13 @@
 //! The window calls over areas between unmapped pages, areas for reading only
 //! and empty ones, and in several threads.
 
-mod areas;
-mod calls;
-mod reference;
-
 use std::thread;
 
-use areas::{empty_pointers, Side, Walled, SIDES};
-use calls::context;
 use rc4hmac::{raw, Window};
-use reference::{receive_outcomes, window, Clerk, Inputs, TokenTerms, Words, Wrap, MIC};
+use reference::{receive_outcomes, window, Clerk, TokenTerms, Words, Wrap, MIC};
+use support::areas::{empty_pointers, Side, Walled, SIDES};
+use support::calls::{self, context};
+use support::{AllTerms, Inputs, MustBe, RandomWrap};
 
 fn octets_of(words: Words) -> Vec<u8> {
     words.map(u64::to_ne_bytes).concat()

@@ -1,12 +1,9 @@
 //! The rules of a receive window one by one: the statuses and the words are
 //! written out here, not computed.
 
-mod calls;
-mod reference;
-
-use calls::{window_bill, window_missing, window_new};
 use reference::clerk::{DUPLICATE, GAP, IN_ORDER, LATE, OLD, OUTSIDE};
 use reference::Words;
+use support::calls::{window_bill, window_missing, window_new};
 
 /// First numbers, some of which make the numbers of a session wrap.
 const FIRSTS: [u32; 7] = [

@@ -1,14 +1,12 @@
 //! Long runs of numbers beside a clerk with the whole history: after each number
 //! the status, all four words and what is missing.
 
-mod calls;
-mod reference;
-
 use std::collections::BTreeSet;
 
-use calls::{window_bill, window_missing, window_new};
 use reference::clerk::{is_billed, STATUS_NAMES};
-use reference::{window, Clerk, Inputs, Words};
+use reference::{window, Clerk, Words};
+use support::calls::{window_bill, window_missing, window_new};
+use support::Inputs;
 
 const FIRSTS: [u32; 5] = [0, 5, 1 << 31, (1 << 31) - 40, u32::MAX - 2];
 

@@ -1,12 +1,10 @@
 //! The four words of a window: what each status does to them, and any contents,
 //! also those that no history makes, beside a model of one step.
 
-mod calls;
-mod reference;
-
-use calls::{window_bill, window_missing};
 use reference::clerk::{is_billed, DUPLICATE, GAP, IN_ORDER, LATE, OLD, OUTSIDE, STATUS_NAMES};
-use reference::{window, Inputs, Words, HIGH};
+use reference::{window, Words};
+use support::calls::{window_bill, window_missing};
+use support::{Inputs, HIGH};
 
 const MARKS: u64 = 0x8000_0000_0000_0005;
 

@@ -1,15 +1,10 @@
 //! Whole Wrap tokens, sealed and clear, of the library beside the second
 //! program's.
 
-mod calls;
-mod reference;
-
-use calls::context;
 use rc4hmac::Opened;
-use reference::{
-    counting, must_be_octets, token_outcomes, Inputs, TokenTerms, Wrap, CLEAR_HEADER, FRONT, PAD,
-    SEALED_HEADER,
-};
+use reference::{token_outcomes, TokenTerms, Wrap, CLEAR_HEADER, FRONT, PAD, SEALED_HEADER};
+use support::calls::{self, context};
+use support::{counting, must_be_octets, AllTerms, Inputs, MustBe, RandomWrap};
 
 const SEQUENCES: [u32; 4] = [0, 1, 1 << 31, u32::MAX];
 

@@ -1,12 +1,10 @@
 //! Right tokens under another key, strength or sender than the reader's: SND_SEQ
 //! then has other direction octets, which is 5. No octet is changed.
 
-mod calls;
-mod reference;
-
-use calls::context;
 use rc4hmac::Refusal;
-use reference::{must_be_octets, token_outcomes, Inputs, Reading, TokenTerms, Wrap};
+use reference::{token_outcomes, Reading, TokenTerms, Wrap};
+use support::calls::{self, context};
+use support::{must_be_octets, AllTerms, Inputs, MustBe, RandomWrap};
 
 /// The tokens of one writer: a MIC of `data`, a clear token and a sealed one.
 struct Tokens {

@@ -2,9 +2,10 @@
 
 use std::fmt::Debug;
 
-use super::{run, run_in_pieces, token_words, Run, Scratch};
-use crate::reference::printed::billed;
-use crate::reference::TokenTerms;
+use reference::printed::billed;
+use reference::TokenTerms;
+
+use super::{run_in_pieces, token_words, Run, Scratch};
 
 /// The first line that differs is shown, and not all of them.
 #[track_caller]

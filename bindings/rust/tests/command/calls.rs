@@ -3,10 +3,11 @@
 
 use std::ffi::OsStr;
 
+use reference::frame_outcomes;
+use reference::printed::{billed, decrypted, digits, hexadecimal, opened};
+use reference::{checksum, frame, password_key, Terms, TokenTerms, Wrap};
+
 use super::{message_words, run, token_words, Run, Scratch};
-use crate::reference::frame_outcomes;
-use crate::reference::printed::{billed, decrypted, digits, hexadecimal, opened};
-use crate::reference::{checksum, frame, password_key, Terms, TokenTerms, Wrap};
 
 /// The usage of each verb, as a wrong number of words is answered.
 pub const USAGES: [&str; 10] = [

@@ -23,14 +23,13 @@ use std::sync::Once;
 use std::thread;
 use std::time::Duration;
 
-use crate::reference::must_be_octets;
-use crate::reference::printed::refused;
+use reference::printed::refused;
+use support::must_be_octets;
 
 pub const ROOT: &str = concat!(env!("CARGO_MANIFEST_DIR"), "/../..");
 const PROGRAM: &str = concat!(env!("CARGO_MANIFEST_DIR"), "/../../krbtoken");
 
 /// The exit status, if no signal ended it, and all that was written.
-#[derive(Debug)]
 pub struct Run {
     pub status: Option<i32>,
     pub stdout: Vec<u8>,

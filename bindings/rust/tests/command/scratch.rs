@@ -5,7 +5,7 @@ use std::path::PathBuf;
 use std::process;
 use std::sync::atomic::{AtomicU32, Ordering};
 
-use crate::reference::printed::digits;
+use reference::printed::digits;
 
 pub struct Scratch {
     folder: PathBuf,

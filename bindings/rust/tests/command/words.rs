@@ -1,7 +1,8 @@
 //! The words of a call.
 
+use reference::{Terms, TokenTerms};
+
 use super::Scratch;
-use crate::reference::{Terms, TokenTerms};
 
 fn strings(words: &[&str]) -> Vec<String> {
     words.iter().map(|word| word.to_string()).collect()

@@ -1,5 +1,5 @@
 //! What the program `krbtoken` prints of keys, tokens, messages, refusals and
-//! captures, computed by the second program.
+//! captures, computed by the reference implementation.
 
 use super::clerk::{Clerk, STATUS_NAMES};
 use super::frame::first_frame;

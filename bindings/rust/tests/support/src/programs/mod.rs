@@ -1,15 +1,13 @@
-//! The token calls of the second program and of the library, without the frame
-//! and in it, for what is asked of both.
-
-// Each test file uses its own share of this module.
-#![allow(dead_code, unused_imports)]
+//! The token calls of the reference implementation and of the library, without
+//! the frame and in it, for what is asked of both.
 
 mod forms;
 
 pub use forms::{framed_wrap_lead, Form, FORMS, FRAMED, TOKENS};
 
+use reference::{frame_outcomes, token_outcomes, Outcome, Reading, TokenTerms, Wrap};
+
 use crate::calls;
-use crate::reference::{frame_outcomes, token_outcomes, Outcome, Reading, TokenTerms, Wrap};
 
 pub struct Program {
     pub mic_write: fn(&TokenTerms, u32, &[u8], &[u8], usize) -> Outcome,

@@ -1,5 +1,5 @@
 //! A clerk who bills by the rules of a receive window with the whole history in
-//! a set: the second program's window.
+//! a set: the window of the reference implementation.
 
 use std::collections::BTreeSet;
 
@@ -11,7 +11,7 @@ pub const DUPLICATE: u32 = 4;
 pub const OLD: u32 = 5;
 pub const OUTSIDE: u32 = 6;
 
-/// For messages of a test.
+/// The names of the statuses by their numbers, as `krbtoken` prints them.
 pub const STATUS_NAMES: [&str; 7] = [
     "none",
     "in order",
@@ -29,7 +29,7 @@ pub fn is_billed(status: u32) -> bool {
 
 /// The status of a number at this distance, where `next` is the next expected
 /// one and `billed` says whether the number was billed.
-pub fn status_at(distance: u64, next: u64, billed: impl FnOnce() -> bool) -> u32 {
+pub(crate) fn status_at(distance: u64, next: u64, billed: impl FnOnce() -> bool) -> u32 {
     if distance >= 1 << 31 {
         OUTSIDE
     } else if distance == next {
@@ -63,7 +63,7 @@ impl Clerk {
     }
 
     /// How far the number is from the first, going up and from 2^32 - 1 on to 0.
-    pub fn distance(&self, sequence: u32) -> u64 {
+    fn distance(&self, sequence: u32) -> u64 {
         let (sequence, first) = (u64::from(sequence), u64::from(self.first));
         if sequence >= first {
             sequence - first
@@ -85,7 +85,7 @@ impl Clerk {
         }
     }
 
-    pub fn status(&self, sequence: u32) -> u32 {
+    fn status(&self, sequence: u32) -> u32 {
         status_at(self.distance(sequence), self.next(), || {
             self.billed.contains(&sequence)
         })
@@ -107,7 +107,7 @@ impl Clerk {
     }
 
     /// Whether the number at this distance was billed.
-    pub fn has(&self, distance: u64) -> bool {
+    fn has(&self, distance: u64) -> bool {
         self.billed.contains(&self.at(distance))
     }
 

@@ -1,8 +1,6 @@
 //! What the four token calls must answer and leave, for any arguments.
 
-use std::fmt;
-
-use super::outcomes::{is_inside, must_be_octets, Outcome};
+use super::outcomes::{is_inside, Outcome};
 use super::token::{TokenTerms, Wrap, FRONT, MIC};
 
 /// The longest message, and the longest data of a MIC.
@@ -19,13 +17,6 @@ pub struct Reading {
 }
 
 impl Reading {
-    /// Fails with the first octet that differs, not with whole buffers.
-    #[track_caller]
-    pub fn must_be(&self, expected: &Reading, what: impl fmt::Debug) {
-        assert_eq!(self.answer(), expected.answer(), "{what:?}");
-        must_be_octets(&self.buf, &expected.buf, what);
-    }
-
     pub fn refused(number: u32, buf: &[u8]) -> Reading {
         Reading {
             number,

@@ -1,7 +1,5 @@
 //! What the calls over a lent buffer must answer and leave, for any arguments.
 
-use std::fmt;
-
 use super::message::{Terms, HEADER};
 use super::usage::USAGES;
 
@@ -13,17 +11,6 @@ pub struct Outcome {
 }
 
 impl Outcome {
-    /// Fails with the first octet that differs, not with whole buffers.
-    #[track_caller]
-    pub fn must_be(&self, expected: &Outcome, what: impl fmt::Debug) {
-        assert_eq!(
-            (self.number, self.len),
-            (expected.number, expected.len),
-            "{what:?}"
-        );
-        must_be_octets(&self.buf, &expected.buf, what);
-    }
-
     pub fn refused(number: u32, buf: &[u8]) -> Outcome {
         let buf = buf.to_vec();
         Outcome {
@@ -44,17 +31,9 @@ impl Outcome {
     }
 }
 
-/// Fails with the first octet that differs.
-#[track_caller]
-pub fn must_be_octets(octets: &[u8], expected: &[u8], what: impl fmt::Debug) {
-    assert_eq!(octets.len(), expected.len(), "{what:?}");
-    let differs = octets.iter().zip(expected).position(|(a, b)| a != b);
-    assert_eq!(differs, None, "the first wrong offset: {what:?}");
-}
-
 /// Whether `length` octets from `start` lie inside a buffer of `buf_len`, the
 /// sum as a whole number.
-pub fn is_inside(start: usize, length: usize, buf_len: usize) -> bool {
+pub(crate) fn is_inside(start: usize, length: usize, buf_len: usize) -> bool {
     start as u128 + length as u128 <= buf_len as u128
 }
 

@@ -3,9 +3,9 @@
 
 use rc4hmac::raw::{self, MicRead, MicWrite, WrapOpen, WrapWrite};
 use rc4hmac::{Context, Sender, Strength};
+use reference::{Outcome, Reading, TokenTerms, Wrap};
 
 use super::LEN_BEFORE;
-use crate::reference::{Outcome, Reading, TokenTerms, Wrap};
 
 /// What a number holds before a call.
 pub const NUMBER_BEFORE: u32 = 0xa5a5_a5a5;

@@ -9,7 +9,7 @@
 //!   them in K1; the steps have seven.
 
 use super::message::exportable;
-use super::{hmac_md5, md5, rc4, Inputs};
+use super::{hmac_md5, md5, rc4};
 
 /// The octets of a MIC token, and of a Wrap token before its message.
 pub const MIC: usize = 24;
@@ -28,7 +28,7 @@ pub const WRAP_MESSAGE_TYPE: u32 = 13;
 pub const PAD: u8 = 0x01;
 
 /// Whose token it is: the key, the strength and the sender.
-#[derive(Clone, Copy, PartialEq)]
+#[derive(Clone, Copy)]
 pub struct TokenTerms {
     pub key: [u8; 16],
     pub export: bool,
@@ -36,7 +36,6 @@ pub struct TokenTerms {
 }
 
 /// What is put in a Wrap token.
-#[derive(Clone)]
 pub struct Wrap {
     pub sequence: u32,
     pub confounder: [u8; 8],
@@ -45,23 +44,13 @@ pub struct Wrap {
 }
 
 /// What a Wrap token opens to: confounder, message and pad as one.
-pub struct Opening {
+pub(crate) struct Opening {
     pub sequence: u32,
     pub sealed: bool,
     pub plain: Vec<u8>,
 }
 
 impl Wrap {
-    /// A message of this length, a confounder and a number, all at random.
-    pub fn new(inputs: &mut Inputs, sealed: bool, len: usize) -> Wrap {
-        Wrap {
-            sequence: inputs.sequence(),
-            confounder: inputs.array(),
-            sealed,
-            message: inputs.octets(len),
-        }
-    }
-
     pub fn header(&self) -> [u8; 8] {
         if self.sealed {
             SEALED_HEADER
@@ -77,18 +66,7 @@ impl Wrap {
 }
 
 impl TokenTerms {
-    /// Both strengths with both senders, each under a key of its own.
-    pub fn all(inputs: &mut Inputs) -> [TokenTerms; 4] {
-        [(false, false), (false, true), (true, false), (true, true)].map(|(export, acceptor)| {
-            TokenTerms {
-                key: inputs.array(),
-                export,
-                acceptor,
-            }
-        })
-    }
-
-    /// For messages of a test.
+    /// The strength and the sender, as `krbtoken` takes them.
     pub fn name(&self) -> (&'static str, &'static str) {
         (
             if self.export { "export" } else { "full" },
@@ -198,7 +176,7 @@ impl TokenTerms {
     }
 
     /// The sequence number of a MIC token of 24 octets, or 4, 5 or 6.
-    pub fn read_mic(&self, token: &[u8], data: &[u8]) -> Result<u32, u32> {
+    pub(crate) fn read_mic(&self, token: &[u8], data: &[u8]) -> Result<u32, u32> {
         if token[..8] != MIC_HEADER {
             return Err(4);
         }
@@ -210,7 +188,7 @@ impl TokenTerms {
     }
 
     /// A Wrap token of at least 33 octets opened, or 4, 5, 6 or 7.
-    pub fn open_wrap(&self, token: &[u8]) -> Result<Opening, u32> {
+    pub(crate) fn open_wrap(&self, token: &[u8]) -> Result<Opening, u32> {
         let header: [u8; 8] = std::array::from_fn(|i| token[i]);
         let sealed = match header {
             SEALED_HEADER => true,

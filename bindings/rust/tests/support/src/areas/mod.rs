@@ -1,9 +1,6 @@
 //! Areas to lend: between guard octets, between pages that cannot be read, and
 //! empty ones.
 
-// Each test file uses its own share of this module.
-#![allow(dead_code, unused_imports)]
-
 mod guarded;
 mod walled;
 

@@ -1,9 +1,11 @@
 //! The two forms of tokens, without the frame and in it: the calls of the library,
-//! each compared with the second program's.
+//! each compared with the reference implementation's.
+
+use reference::{frame_outcomes, lead, Outcome, Reading, TokenTerms, Wrap, FRONT, MIC};
 
 use super::{Program, FRAMED_REFERENCE, REFERENCE};
 use crate::calls::{self, TokenCalls};
-use crate::reference::{frame_outcomes, lead, Outcome, Reading, TokenTerms, Wrap, FRONT, MIC};
+use crate::MustBe;
 
 /// The raw functions, what they must answer and leave, and what stands before a
 /// token of some length.

@@ -1,14 +1,9 @@
 //! The functions of the archive on slices, so that arguments get through that
 //! the safe functions would not take. Nothing that is lent may overlap.
 
-// Each test file uses its own share of this module.
-#![allow(dead_code, unused_imports)]
-
 mod frames;
 mod tokens;
 mod window;
-
-use rc4hmac::raw;
 
 pub use frames::{framed_wrap_lead, FRAMED};
 pub use tokens::{context, mic_read, mic_write, wrap_open, wrap_write, Flags, TokenCalls, TOKENS};
@@ -17,7 +12,8 @@ pub use window::{
     window_missing, window_new,
 };
 
-use crate::reference::{Outcome, Terms};
+use rc4hmac::raw;
+use reference::{Outcome, Terms};
 
 /// What out values hold before a call.
 const OCTETS_BEFORE: [u8; 16] = [0xa5; 16];

@@ -1,7 +1,7 @@
 //! Sets of faults in one call, the refusal number that they are given, and tokens
 //! that have them.
 
-use super::token::{TokenTerms, Wrap, PAD};
+use reference::{TokenTerms, Wrap, PAD};
 
 /// Every set of `N` faults, each there or not.
 pub fn fault_sets<const N: usize>() -> impl Iterator<Item = [bool; N]> {
@@ -17,7 +17,6 @@ pub fn first<const N: usize>(numbers: [u32; N], faults: [bool; N]) -> u32 {
 }
 
 /// Faults of a token, in the order of their refusals.
-#[derive(Clone, Copy, Debug)]
 pub struct Faults {
     header: bool,
     direction: bool,

@@ -1,12 +1,11 @@
 //! Token calls over areas between guard octets: what they answer and every
 //! octet afterwards, without the frame and in it.
 
-// Each test file uses its own share of this module.
-#![allow(dead_code)]
+use reference::{Outcome, Reading, TokenTerms, Wrap};
 
 use crate::areas::Guarded;
 use crate::programs::Form;
-use crate::reference::{must_be_octets, Inputs, Outcome, Reading, TokenTerms, Wrap};
+use crate::{must_be_octets, Inputs};
 
 /// What a token call is lent, each area between guard octets.
 pub struct Lent {

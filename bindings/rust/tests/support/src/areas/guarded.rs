@@ -1,6 +1,6 @@
 //! Areas between guard octets.
 
-use crate::reference::Inputs;
+use crate::Inputs;
 
 const GUARD: usize = 64;
 

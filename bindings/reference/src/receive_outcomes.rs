@@ -1,8 +1,6 @@
 //! What the calls that open a token and bill it must answer and leave, for any
 //! arguments and any window.
 
-use std::fmt;
-
 use super::token::TokenTerms;
 use super::token_outcomes::{mic_read, wrap_open, Reading};
 use super::window::{bill, Words};
@@ -15,16 +13,6 @@ pub struct Receipt {
 }
 
 impl Receipt {
-    #[track_caller]
-    pub fn must_be(&self, expected: &Receipt, what: impl fmt::Debug) {
-        assert_eq!(
-            (self.reading.number, self.status, self.words),
-            (expected.reading.number, expected.status, expected.words),
-            "{what:?}"
-        );
-        self.reading.must_be(&expected.reading, what);
-    }
-
     pub fn refused(number: u32, words: Words, buf: &[u8]) -> Receipt {
         Receipt {
             reading: Reading::refused(number, buf),

@@ -1,7 +1,7 @@
 //! Encrypted messages, from RFC 4757, section 5.
 
-use super::usage::{salt, USAGES};
-use super::{hmac_md5, rc4, Inputs};
+use super::usage::salt;
+use super::{hmac_md5, rc4};
 
 /// The octets of the checksum, and of the checksum and the confounder.
 const CHECKSUM: usize = 16;
@@ -14,7 +14,7 @@ pub fn exportable(mut key: [u8; 16]) -> [u8; 16] {
 }
 
 /// Whose message it is, apart from its confounder and its data.
-#[derive(Clone, Copy, PartialEq)]
+#[derive(Clone, Copy)]
 pub struct Terms {
     pub key: [u8; 16],
     pub export: bool,
@@ -22,20 +22,7 @@ pub struct Terms {
 }
 
 impl Terms {
-    /// Both strengths with every usage, each under a key of its own.
-    pub fn all(inputs: &mut Inputs) -> Vec<Terms> {
-        [false, true]
-            .into_iter()
-            .flat_map(|export| USAGES.map(move |usage| (export, usage)))
-            .map(|(export, usage)| Terms {
-                key: inputs.array(),
-                export,
-                usage,
-            })
-            .collect()
-    }
-
-    /// For messages of a test.
+    /// The strength and the usage, as `krbtoken` takes them.
     pub fn name(&self) -> (&'static str, u32) {
         (if self.export { "export" } else { "full" }, self.usage)
     }

@@ -1,10 +1,10 @@
 //! The window calls on slices, and with any numbers for yes and no.
 
 use rc4hmac::raw;
+use reference::{Reading, Receipt, TokenTerms, Words};
 
 use super::tokens::{Flags, NUMBER_BEFORE};
 use super::LEN_BEFORE;
-use crate::reference::{Reading, Receipt, TokenTerms, Words};
 
 /// What a window to be made holds before the call.
 const WORD_BEFORE: u64 = 0xa5a5_a5a5_a5a5_a5a5;

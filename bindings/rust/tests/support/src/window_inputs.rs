@@ -1,7 +1,8 @@
 //! Any words of a window, and numbers to bill in it.
 
-use super::inputs::Inputs;
-use super::window::Words;
+use reference::Words;
+
+use crate::Inputs;
 
 /// In the upper half of the first two words: taken modulo 2^32.
 pub const HIGH: [u64; 5] = [0, 1 << 32, 1 << 63, 0xffff_ffff << 32, 0xa5a5_5a5a << 32];

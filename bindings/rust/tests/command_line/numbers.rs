@@ -1,11 +1,10 @@
 //! Numbers, confounders and sequence numbers of `krbtoken` in all the ways that
 //! are taken.
 
-mod command;
-
-use command::{calls, run, Call, Scratch};
 use reference::checksum;
 use reference::printed::digits;
+
+use crate::command::{calls, run, Call, Scratch};
 
 /// A call with another word for the same is done alike.
 #[track_caller]

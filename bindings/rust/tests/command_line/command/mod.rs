@@ -1,9 +1,6 @@
 //! Runs the program `krbtoken` as a user does, at the repository's top, and looks
 //! at all that comes out of it.
 
-// Each test file uses its own share of this module.
-#![allow(dead_code, unused_imports)]
-
 mod bill;
 mod calls;
 mod scratch;

@@ -1,8 +1,6 @@
 //! The second program, and then the library, on published vectors.
 
-mod data;
-
-use data::{octets, rfc6229, Hmac, MD4_DIGESTS, MD5_DIGESTS, MESSAGES};
+use crate::data::{self, octets, rfc6229, Hmac, MD4_DIGESTS, MD5_DIGESTS, MESSAGES};
 
 type Digest = [u8; 16];
 

@@ -1,11 +1,10 @@
 //! Each refusal of each verb of `krbtoken` but `bill`, with its line and its exit
 //! status.
 
-mod command;
-
-use command::{message_words, run, token_words, Scratch};
 use reference::{frame, lead, Terms, TokenTerms, Wrap, FRONT, MIC};
 use support::{fault_sets, first, AllTerms, Faults, Inputs, RandomWrap};
+
+use crate::command::{message_words, run, token_words, Scratch};
 
 const MESSAGE_MAX: usize = 32_768;
 const OVER: [usize; 4] = [MESSAGE_MAX + 1, MESSAGE_MAX + 2, 40_000, 65_536];

@@ -2,15 +2,14 @@
 //! wrote, whole in their frames and out of them: each is opened, written again
 //! octet for octet, and refused where it should be.
 
-mod data;
-
-use data::implementations::{heimdal, mit_krb5, Kind, Token};
 use rc4hmac::{Context, Opened, Refusal, Window};
 use reference::clerk::{DUPLICATE, GAP, IN_ORDER};
 use reference::{read_lead, Clerk, Reading, TokenTerms, Wrap, PAD};
 use support::calls::context;
 use support::programs::{Program, FRAMED_LIBRARY, FRAMED_REFERENCE, LIBRARY, REFERENCE};
 use support::{must_be_octets, MustBe};
+
+use crate::data::implementations::{heimdal, mit_krb5, Kind, Token};
 
 const KINDS: [Kind; 3] = [Kind::Mic, Kind::Sealed, Kind::Clear];
 

@@ -1,13 +1,12 @@
 //! `krbtoken wrap`, `open`, `mic` and `verify`, there and back: what is written
 //! is the second program's, octet for octet, and its tokens are read exactly.
 
-mod command;
-
-use command::{run, token_words, Scratch};
 use reference::printed::{hexadecimal, opened, verified};
 use reference::token_outcomes::{self, Reading};
 use reference::{frame, frame_outcomes, TokenTerms, Wrap};
 use support::{AllTerms, Inputs, RandomWrap};
+
+use crate::command::{run, token_words, Scratch};
 
 const LENS: [usize; 5] = [0, 1, 5, 300, 32_768];
 const FORMS: [bool; 2] = [false, true];

@@ -1,12 +1,11 @@
 //! The second program, and then the library, on tokens that other programs
 //! computed.
 
-mod data;
-
-use data::{computed, octets, tokens};
 use reference::{md5, TokenTerms, Wrap, FRONT};
 use support::must_be_octets;
 use support::programs::{Program, LIBRARY, REFERENCE};
+
+use crate::data::{computed, octets, tokens};
 
 const SEQUENCE: u32 = 16_909_060;
 

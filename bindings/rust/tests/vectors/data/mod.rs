@@ -3,9 +3,6 @@
 //! (section 2). And others: computed for this, written by other
 //! implementations, or attributed to a source that was not at hand.
 
-// Each test file uses its own share of this module.
-#![allow(dead_code)]
-
 pub mod computed;
 pub mod implementations;
 pub mod krb5;

@@ -1,11 +1,10 @@
 //! The second program, and then the library, on values that other programs
 //! computed.
 
-mod data;
-
-use data::{computed, octets};
 use reference::{outcomes, Outcome, Terms, HEADER, USAGES};
 use support::{calls, must_be_octets};
+
+use crate::data::{computed, octets};
 
 /// The refusal number and the octets written.
 type Answer = (u32, [u8; 16]);

@@ -1,11 +1,10 @@
 //! `krbtoken encrypt`, `decrypt` and `checksum`, beside the second program.
 
-mod command;
-
-use command::{message_words, run, Scratch};
 use reference::printed::{decrypted, digits, hexadecimal};
 use reference::{checksum, Terms, HEADER, USAGES};
 use support::{AllTerms, Inputs};
+
+use crate::command::{message_words, run, Scratch};
 
 const LENS: [usize; 5] = [0, 1, 5, 300, 32_768];
 

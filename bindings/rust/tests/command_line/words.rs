@@ -1,9 +1,7 @@
 //! Wrong words of `krbtoken`: each kind in each verb, and that the first fault is
 //! told, alone.
 
-mod command;
-
-use command::{calls, run, Call, Scratch, USAGES};
+use crate::command::{calls, run, Call, Scratch, USAGES};
 
 const VERB: &str = "the verb is missing or unknown: expected key, open, wrap, verify, mic, \
                     decrypt, encrypt, checksum, bill or help";

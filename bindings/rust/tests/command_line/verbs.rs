@@ -1,12 +1,10 @@
 //! The program `krbtoken`: its help, itself with no words, and one call of each
 //! verb.
 
-mod command;
-
 use std::fs::{self, File};
 use std::process::Command;
 
-use command::{calls, run, run_on, Scratch, ROOT, USAGES};
+use crate::command::{calls, run, run_on, Scratch, ROOT, USAGES};
 
 /// What the program is asked for as `./krbtoken` does it with no words.
 const MORNING: [&str; 5] = [

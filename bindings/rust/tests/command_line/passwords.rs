@@ -1,12 +1,11 @@
 //! `krbtoken key`: passwords in UTF-8, beside the second program's keys of Rust's
 //! own UTF-16.
 
-mod command;
-
-use command::{run, Run};
 use reference::password_key;
 use reference::printed::digits;
 use support::Inputs;
+
+use crate::command::{run, Run};
 
 const NOT_UTF_8: &str = "the password is wrong: expected UTF-8";
 const TOO_LONG: &str = "standard input is too long: expected at most 1024 octets";

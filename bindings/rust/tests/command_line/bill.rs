@@ -1,10 +1,9 @@
 //! `krbtoken bill`: every status and every refusal of a token in a capture.
 
-mod command;
-
-use command::{check_bill, run, Scratch};
 use reference::{frame, TokenTerms, Wrap};
 use support::{fault_sets, AllTerms, Faults, Inputs, RandomWrap};
+
+use crate::command::{check_bill, run, Scratch};
 
 const TERMS: TokenTerms = TokenTerms {
     key: [0x4b; 16],

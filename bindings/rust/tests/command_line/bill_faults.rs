@@ -1,12 +1,11 @@
 //! `krbtoken bill`: faults of a frame, after which nothing can be told apart, and
 //! captures that are cut off.
 
-mod command;
-
-use command::{check_bill, run, token_words, Scratch};
 use reference::printed::billed;
 use reference::{frame, frame_with, long_form, TokenTerms, Wrap, MECHANISM};
 use support::Inputs;
+
+use crate::command::{check_bill, run, token_words, Scratch};
 
 const TERMS: TokenTerms = TokenTerms {
     key: [0xb4; 16],

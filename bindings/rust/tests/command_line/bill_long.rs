@@ -1,12 +1,11 @@
 //! `krbtoken bill`: captures that are longer than the program's buffer, which is
 //! filled again and again, and captures that come in pieces.
 
-mod command;
-
-use command::{check_bill, check_bill_in_pieces};
 use reference::printed::billed;
 use reference::{frame, Clerk, TokenTerms, Wrap};
 use support::{AllTerms, Faults, Inputs, RandomWrap};
+
+use crate::command::{check_bill, check_bill_in_pieces};
 
 /// The longest frame of a token, and the program's buffer: four of them.
 const LARGEST: usize = 32_816;

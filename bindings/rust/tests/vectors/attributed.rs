@@ -1,11 +1,10 @@
 //! The second program, and then the library, on messages and a checksum that
 //! are attributed to the tests of MIT krb5.
 
-mod data;
-
-use data::{array, krb5, octets};
 use reference::{Outcome, Terms, HEADER};
 use support::{calls, must_be_octets};
+
+use crate::data::{array, krb5, octets};
 
 /// The confounders are not given: opening tells them.
 fn check_messages(

@@ -1,11 +1,10 @@
 //! Nothing that `krbtoken` writes has the key in it, but what `key` prints, and no
 //! word is echoed, since one may be a key by mistake.
 
-mod command;
-
-use command::{calls, run, Call, Run, Scratch};
 use reference::printed::hexadecimal;
 use reference::{frame, TokenTerms, Wrap};
+
+use crate::command::{calls, run, Call, Run, Scratch};
 
 /// Neither the key's octets nor its digits, of either case.
 #[track_caller]

@@ -1,13 +1,12 @@
 //! The key file, the token file, the input and the output of `krbtoken`: what is
 //! taken, how long they may be, and what is said of those that can't be used.
 
-mod command;
-
 use std::fs::{self, File};
 
-use command::{calls, run, run_on, run_to, token_words, Call, Scratch};
 use reference::printed::hexadecimal;
 use reference::{frame, TokenTerms};
+
+use crate::command::{calls, run, run_on, run_to, token_words, Call, Scratch};
 
 const WRONG_KEY: &str =
     "the key file is wrong: expected 32 hexadecimal digits and at most one newline after them";

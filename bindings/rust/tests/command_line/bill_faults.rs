@@ -27,7 +27,7 @@ fn framed(sequence: u32, len: usize) -> Vec<u8> {
     frame(&token(sequence, len))
 }
 
-/// The second program ends with the fault at this place.
+/// The reference implementation ends with the fault at this place.
 #[track_caller]
 fn check_fault(capture: &[u8], place: usize, what: &str) {
     let (lines, status) = billed(&TERMS, 0, capture);

@@ -1,4 +1,5 @@
-//! `krbtoken encrypt`, `decrypt` and `checksum`, beside the second program.
+//! `krbtoken encrypt`, `decrypt` and `checksum`, compared with the reference
+//! implementation.
 
 use reference::printed::{decrypted, digits, hexadecimal};
 use reference::{checksum, Terms, HEADER, USAGES};

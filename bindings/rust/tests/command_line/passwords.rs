@@ -1,5 +1,5 @@
-//! `krbtoken key`: passwords in UTF-8, beside the second program's keys of Rust's
-//! own UTF-16.
+//! `krbtoken key`: passwords in UTF-8, compared with the keys that the reference
+//! implementation makes of Rust's own UTF-16.
 
 use reference::password_key;
 use reference::printed::digits;

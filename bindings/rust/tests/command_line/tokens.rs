@@ -1,5 +1,6 @@
 //! `krbtoken wrap`, `open`, `mic` and `verify`, there and back: what is written
-//! is the second program's, octet for octet, and its tokens are read exactly.
+//! is the reference implementation's, octet for octet, and its tokens are read
+//! exactly.
 
 use reference::printed::{hexadecimal, opened, verified};
 use reference::token_outcomes::{self, Reading};
@@ -152,8 +153,9 @@ fn numbers_at_both_ends_are_written_and_read() {
     }
 }
 
-/// Every octet of a token changed, one at a time: refused as the second program
-/// refuses it, or read with another number if that is under no checksum.
+/// Every octet of a token changed, one at a time: refused as the reference
+/// implementation refuses it, or read with another number if that is under no
+/// checksum.
 #[test]
 fn a_token_with_any_octet_changed_is_answered_as_the_reference_does() {
     let (scratch, mut inputs) = (Scratch::new(), Inputs::new(606));

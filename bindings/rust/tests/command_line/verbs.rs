@@ -62,7 +62,7 @@ fn help_has_the_usage_of_every_verb() {
     help.must_print(&text, "help");
 }
 
-/// The words are all there, and the octets are the second program's.
+/// The words are all there, and the octets are the reference implementation's.
 #[test]
 fn one_call_of_each_verb_is_done() {
     let scratch = Scratch::new();

@@ -1,5 +1,5 @@
 //! Octets at random as framed tokens, with more and more of a frame right: the
-//! second program's outcome for each.
+//! outcome of the reference implementation for each.
 
 use reference::{der_length, frame, frame_with, long_form, TokenTerms, Wrap, PAD};
 use support::programs::FRAMED;

@@ -1,5 +1,4 @@
-//! Whole framed tokens, MIC and Wrap, of the library beside the second
-//! program's.
+//! Whole framed tokens, MIC and Wrap, compared with the reference implementation.
 
 use rc4hmac::Opened;
 use reference::{frame, lead, TokenTerms, Wrap, FRONT, PAD};

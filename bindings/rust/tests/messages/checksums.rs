@@ -1,4 +1,4 @@
-//! Keyed checksums of the library beside the second program's, and their test.
+//! Keyed checksums, compared with the reference implementation, and their test.
 
 use rc4hmac::{Refusal, Usage};
 use reference::{message_type, USAGES};

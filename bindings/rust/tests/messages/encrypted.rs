@@ -1,4 +1,4 @@
-//! Whole encrypted messages of the library beside the second program's.
+//! Whole encrypted messages, compared with the reference implementation.
 
 use rc4hmac::{Strength, Usage};
 use reference::{Terms, HEADER};
@@ -12,7 +12,7 @@ fn strength(terms: &Terms) -> Strength {
     }
 }
 
-/// The library writes what the second program writes, and reads it.
+/// The library writes what the reference implementation writes, and reads it.
 fn compare(terms: &Terms, confounder: &[u8; 8], data: &[u8]) {
     let what = (terms.name(), data.len());
     let (strength, usage) = (strength(terms), Usage::new(terms.usage).unwrap());

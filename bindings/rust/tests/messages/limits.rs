@@ -136,7 +136,7 @@ fn the_safe_functions_refuse_other_lengths_and_leave_the_buffer() {
     }
 }
 
-/// The second program answers for lengths in between, at random.
+/// Lengths in between, at random, compared with the reference implementation.
 #[test]
 fn lengths_beside_the_limits_have_the_references_outcome() {
     let mut inputs = Inputs::new(126);

@@ -1,4 +1,4 @@
-//! Keys of passwords of the library beside the second program's.
+//! Keys of passwords, compared with the reference implementation.
 
 use rc4hmac::Refusal;
 use support::{calls, Inputs};

@@ -1,4 +1,4 @@
-//! MD4 and MD5 of the library beside the second program's.
+//! MD4 and MD5, compared with the reference implementation.
 
 use rc4hmac::Refusal;
 use support::{counting, Inputs};

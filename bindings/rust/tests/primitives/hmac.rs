@@ -1,4 +1,4 @@
-//! HMAC-MD5 of the library beside the second program's.
+//! HMAC-MD5, compared with the reference implementation.
 
 use support::{counting, Inputs};
 

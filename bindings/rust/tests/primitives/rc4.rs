@@ -1,4 +1,4 @@
-//! RC4 of the library beside the second program's.
+//! RC4, compared with the reference implementation.
 
 use support::{counting, Inputs};
 

@@ -189,7 +189,7 @@ fn the_safe_functions_refuse_other_lengths_and_leave_the_buffer() {
     }
 }
 
-/// The second program answers for every length beside the limits.
+/// Every length beside the limits, compared with the reference implementation.
 #[test]
 fn lengths_beside_the_limits_have_the_references_outcome() {
     let mut inputs = Inputs::new(290);

@@ -1,4 +1,4 @@
-//! Whole MIC tokens of the library beside the second program's.
+//! Whole MIC tokens, compared with the reference implementation.
 
 use rc4hmac::MIC_LEN;
 use reference::{token_outcomes, Reading, TokenTerms, MIC, MIC_HEADER};
@@ -7,8 +7,8 @@ use support::{counting, must_be_octets, AllTerms, Inputs, MustBe};
 
 const SEQUENCES: [u32; 4] = [0, 1, 1 << 31, u32::MAX];
 
-/// The library writes what the second program writes, and each reads the
-/// other's; all octets of a longer buffer are compared.
+/// The library writes what the reference implementation writes, and each reads
+/// the other's; all octets of a longer buffer are compared.
 #[track_caller]
 fn compare(inputs: &mut Inputs, terms: &TokenTerms, sequence: u32, data: &[u8]) {
     let what = (terms.name(), sequence, data.len());

@@ -1,5 +1,5 @@
-//! Octets at random as tokens, with more and more of a token right: the second
-//! program's outcome for each.
+//! Octets at random as tokens, with more and more of a token right: the outcome
+//! of the reference implementation for each.
 
 use reference::{token_outcomes, TokenTerms, Wrap, CLEAR_HEADER, MIC_HEADER, PAD, SEALED_HEADER};
 use support::{calls, AllTerms, Inputs, MustBe, RandomWrap};

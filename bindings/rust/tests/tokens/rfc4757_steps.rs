@@ -76,8 +76,8 @@ impl Steps {
     }
 }
 
-/// The refusals, or 0, of a MIC, a clear token and a sealed one, by the second
-/// program and by the library. With 0 the step is none of the token's.
+/// The refusals, or 0, of a MIC, a clear token and a sealed one, by the reference
+/// implementation and by the library. With 0 the step is none of the token's.
 #[track_caller]
 fn check(inputs: &mut Inputs, steps: &Steps, numbers: impl Fn(&TokenTerms) -> [u32; 3]) {
     for terms in TokenTerms::all(inputs) {

@@ -1,5 +1,5 @@
-//! Whole Wrap tokens, sealed and clear, of the library beside the second
-//! program's.
+//! Whole Wrap tokens, sealed and clear, compared with the reference
+//! implementation.
 
 use rc4hmac::Opened;
 use reference::{token_outcomes, TokenTerms, Wrap, CLEAR_HEADER, FRONT, PAD, SEALED_HEADER};
@@ -8,8 +8,8 @@ use support::{counting, must_be_octets, AllTerms, Inputs, MustBe, RandomWrap};
 
 const SEQUENCES: [u32; 4] = [0, 1, 1 << 31, u32::MAX];
 
-/// The library writes what the second program writes, and each opens the
-/// other's; all octets of a longer buffer are compared.
+/// The library writes what the reference implementation writes, and each opens
+/// the other's; all octets of a longer buffer are compared.
 #[track_caller]
 fn compare(inputs: &mut Inputs, terms: &TokenTerms, wrap: &Wrap) {
     let len = wrap.message.len();

@@ -26,7 +26,7 @@ impl Tokens {
         Tokens { data, mic, wraps }
     }
 
-    /// The second program says 5, and so does the library.
+    /// The reference implementation returns 5, and so does the library.
     #[track_caller]
     fn check_refused(&self, reader: &TokenTerms, what: impl std::fmt::Debug) {
         let expected = token_outcomes::mic_read(reader, &self.data, &self.mic, 0, 24);

@@ -1,5 +1,5 @@
-//! The second program, and then the library, on messages and a checksum that
-//! are attributed to the tests of MIT krb5.
+//! The reference implementation, and then the library, on messages and a checksum
+//! that are attributed to the tests of MIT krb5.
 
 use reference::{Outcome, Terms, HEADER};
 use support::{calls, must_be_octets};

@@ -1,5 +1,5 @@
-//! The second program, and then the library, on values that other programs
-//! computed.
+//! The reference implementation, and then the library, on values that other
+//! programs computed.
 
 use reference::{outcomes, Outcome, Terms, HEADER, USAGES};
 use support::{calls, must_be_octets};
@@ -9,7 +9,7 @@ use crate::data::{computed, octets};
 /// The refusal number and the octets written.
 type Answer = (u32, [u8; 16]);
 
-/// What is tested: the second program or the library.
+/// What is tested: the reference implementation or the library.
 struct Program {
     password_key: fn(&[u16]) -> Answer,
     checksum: fn(&[u8; 16], u32, &[u8]) -> Answer,

@@ -1,5 +1,5 @@
-//! The second program, and then the library, on tokens that other programs
-//! computed.
+//! The reference implementation, and then the library, on tokens that other
+//! programs computed.
 
 use reference::{md5, TokenTerms, Wrap, FRONT};
 use support::must_be_octets;

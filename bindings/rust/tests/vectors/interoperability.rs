@@ -1,6 +1,6 @@
-//! The second program, and then the library, on tokens that MIT krb5 and Heimdal
-//! wrote, whole in their frames and out of them: each is opened, written again
-//! octet for octet, and refused where it should be.
+//! The reference implementation, and then the library, on tokens that MIT krb5
+//! and Heimdal wrote, whole in their frames and out of them: each is opened,
+//! written again octet for octet, and refused where it should be.
 
 use rc4hmac::{Context, Opened, Refusal, Window};
 use reference::clerk::{DUPLICATE, GAP, IN_ORDER};

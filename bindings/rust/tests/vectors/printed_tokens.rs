@@ -1,5 +1,5 @@
 //! The tokens, messages and checksums that the program `refusals` prints,
-//! computed anew by the second program. Its other lines are not looked at.
+//! compared with the reference implementation. Its other lines are not read.
 
 use std::fs;
 

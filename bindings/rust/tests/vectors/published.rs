@@ -1,4 +1,4 @@
-//! The second program, and then the library, on published vectors.
+//! The reference implementation, and then the library, on published vectors.
 
 use crate::data::{self, octets, rfc6229, Hmac, MD4_DIGESTS, MD5_DIGESTS, MESSAGES};
 

@@ -1,5 +1,5 @@
-//! Whole sessions: sealed, clear and empty Wrap tokens and MICs that the second
-//! program writes come out of order, again and damaged, beside the clerk.
+//! Whole sessions, compared with the clerk: sealed, clear and empty Wrap tokens
+//! and MICs of the reference implementation, out of order, repeated and damaged.
 
 use reference::clerk::{is_billed, STATUS_NAMES};
 use reference::{token_outcomes, window, Clerk, Receipt, TokenTerms, Words, Wrap, MIC};

@@ -1,5 +1,5 @@
-//! Tokens that are opened and billed in one call: the second program's outcome
-//! for each, the number that a token presents, and the flags.
+//! Tokens that are opened and billed in one call: the outcome of the reference
+//! implementation for each, the number that a token presents, and the flags.
 
 use reference::clerk::{DUPLICATE, IN_ORDER, STATUS_NAMES};
 use reference::{receive_outcomes, Receipt, TokenTerms, Words, Wrap};

@@ -1,4 +1,4 @@
-//! Captures billed by the program, beside the second program.
+//! Captures billed by the program, compared with the reference implementation.
 
 use std::fmt::Debug;
 
@@ -19,7 +19,7 @@ fn must_be_bill(run: &Run, terms: &TokenTerms, first: u32, capture: &[u8], what:
     run.must_be(status, lines.as_bytes(), "", what);
 }
 
-/// The whole output is the second program's.
+/// The whole output is the reference implementation's.
 #[track_caller]
 pub fn check_bill(terms: &TokenTerms, first: u32, capture: &[u8], what: impl Debug) {
     check_bill_in_pieces(terms, first, &[capture], what);

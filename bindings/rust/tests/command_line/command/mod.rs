@@ -33,8 +33,8 @@ pub struct Run {
     pub stderr: Vec<u8>,
 }
 
-/// The program with these words, built before the first is made: the tests of a
-/// file run side by side.
+/// The program with these words, built before the first is made, since the tests
+/// run side by side.
 pub fn program(words: &[impl AsRef<OsStr>]) -> Command {
     static BUILT: Once = Once::new();
     BUILT.call_once(|| {

@@ -3,6 +3,7 @@
 
 use std::fs;
 
+use reference::printed::hexadecimal;
 use reference::{checksum, md5, Terms, TokenTerms, Wrap};
 
 const PRINTED: &str = concat!(env!("CARGO_MANIFEST_DIR"), "/../../crates/refusals/stdout");
@@ -23,10 +24,6 @@ fn confounder() -> [u8; 8] {
 
 fn octets(len: usize) -> Vec<u8> {
     (0..len).map(|i| (7 * i + 1) as u8).collect()
-}
-
-fn hexadecimal(octets: &[u8]) -> String {
-    octets.iter().map(|octet| format!("{octet:02x}")).collect()
 }
 
 /// The lines of the tokens of one key, strength and sender.

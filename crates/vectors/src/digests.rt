@@ -1,54 +1,44 @@
 // The test suites of RFC 1320 (A.5), RFC 1321 (A.5) and RFC 2104 (appendix).
 use crate::text;
+use primitives::hash::Algorithm;
 use primitives::whole;
 
-fn md4() {
-    text::write_digest(b"RFC 1320 A.5 1", whole::md4(b""));
-    text::write_digest(b"RFC 1320 A.5 2", whole::md4(b"a"));
-    text::write_digest(b"RFC 1320 A.5 3", whole::md4(b"abc"));
-    text::write_digest(b"RFC 1320 A.5 4", whole::md4(b"message digest"));
-    text::write_digest(b"RFC 1320 A.5 5", whole::md4(b"abcdefghijklmnopqrstuvwxyz"));
-    text::write_digest(
-        b"RFC 1320 A.5 6",
-        whole::md4(b"ABCDEFGHIJKLMNOPQRSTUVWXYZabcdefghijklmnopqrstuvwxyz0123456789"),
+// A test of A.5: of RFC 1320 for MD4, of RFC 1321 for MD5.
+fn write_test(algorithm: Algorithm, number: usize, message: &[u8]) {
+    match algorithm {
+        Algorithm::Md4 => text::write_digest(b"RFC 1320 A.5 ", number, whole::md4(message)),
+        Algorithm::Md5 => text::write_digest(b"RFC 1321 A.5 ", number, whole::md5(message)),
+    }
+}
+
+// The tests of A.5, which has the same messages in both documents.
+fn write_suite(algorithm: Algorithm) {
+    write_test(algorithm, 1, b"");
+    write_test(algorithm, 2, b"a");
+    write_test(algorithm, 3, b"abc");
+    write_test(algorithm, 4, b"message digest");
+    write_test(algorithm, 5, b"abcdefghijklmnopqrstuvwxyz");
+    write_test(
+        algorithm,
+        6,
+        b"ABCDEFGHIJKLMNOPQRSTUVWXYZabcdefghijklmnopqrstuvwxyz0123456789",
     );
-    text::write_digest(
-        b"RFC 1320 A.5 7",
-        whole::md4(
-            b"12345678901234567890123456789012345678901234567890123456789012345678901234567890",
-        ),
+    write_test(
+        algorithm,
+        7,
+        b"12345678901234567890123456789012345678901234567890123456789012345678901234567890",
     );
 }
 
-fn md5() {
-    text::write_digest(b"RFC 1321 A.5 1", whole::md5(b""));
-    text::write_digest(b"RFC 1321 A.5 2", whole::md5(b"a"));
-    text::write_digest(b"RFC 1321 A.5 3", whole::md5(b"abc"));
-    text::write_digest(b"RFC 1321 A.5 4", whole::md5(b"message digest"));
-    text::write_digest(b"RFC 1321 A.5 5", whole::md5(b"abcdefghijklmnopqrstuvwxyz"));
-    text::write_digest(
-        b"RFC 1321 A.5 6",
-        whole::md5(b"ABCDEFGHIJKLMNOPQRSTUVWXYZabcdefghijklmnopqrstuvwxyz0123456789"),
-    );
-    text::write_digest(
-        b"RFC 1321 A.5 7",
-        whole::md5(
-            b"12345678901234567890123456789012345678901234567890123456789012345678901234567890",
-        ),
-    );
-}
-
-fn hmac_md5() {
-    text::write_digest(b"RFC 2104 1", whole::hmac_md5(&[0x0bu8; 16], b"Hi There"));
-    text::write_digest(
-        b"RFC 2104 2",
-        whole::hmac_md5(b"Jefe", b"what do ya want for nothing?"),
-    );
-    text::write_digest(b"RFC 2104 3", whole::hmac_md5(&[0xaau8; 16], &[0xddu8; 50]));
+// A test of the appendix of RFC 2104.
+fn write_hmac(number: usize, key: &[u8], message: &[u8]) {
+    text::write_digest(b"RFC 2104 ", number, whole::hmac_md5(key, message));
 }
 
 pub fn run() {
-    md4();
-    md5();
-    hmac_md5();
+    write_suite(Algorithm::Md4);
+    write_suite(Algorithm::Md5);
+    write_hmac(1, &[0x0bu8; 16], b"Hi There");
+    write_hmac(2, b"Jefe", b"what do ya want for nothing?");
+    write_hmac(3, &[0xaau8; 16], &[0xddu8; 50]);
 }

@@ -7,9 +7,8 @@ fn write_key(name: &[u8], units: &[u16]) {
     let answer = key::password_key(units);
     let octets = answer.octets;
     text::write(name);
-    text::write(b": ");
     text::write_hex(&octets);
-    text::write(b"\n");
+    text::end_line();
 }
 
 fn write_type(name: &[u8], number: u32) {
@@ -20,11 +19,11 @@ fn write_type(name: &[u8], number: u32) {
     text::write_decimal(number as usize);
     text::write(b" ");
     text::write_hex(&t);
-    text::write(b"\n");
+    text::end_line();
 }
 
 pub fn run() {
-    write_key(b"RFC 4757 2 foo", &[0x66u16, 0x6f, 0x6f]);
+    write_key(b"RFC 4757 2 foo: ", &[0x66u16, 0x6f, 0x6f]);
     write_type(b"AS-REQ PA-ENC-TIMESTAMP", Usage::AS_REQ_PA_ENC_TIMESTAMP);
     write_type(b"AS-REP and TGS-REP Ticket", Usage::AS_REP_TGS_REP_TICKET);
     write_type(b"AS-REP encrypted part", Usage::AS_REP_ENCRYPTED_PART);

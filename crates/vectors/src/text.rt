@@ -23,22 +23,37 @@ pub fn write_decimal(n: usize) {
     io::print_decimal(STDOUT_FILENO, n as u64);
 }
 
+// The name of a line, which has a number at its end.
+pub fn write_name(name: &[u8], number: usize) {
+    write(name);
+    write_decimal(number);
+    write(b": ");
+}
+
 // The number of a status.
 pub fn write_status(status: Status) {
     match status {
-        Status::Done => write(b"0"),
-        Status::Length => write(b"1"),
+        Status::Done => write_decimal(0),
+        Status::Length => write_decimal(1),
     }
 }
 
-// A name, the number of the answer's status, and its digest.
-pub fn write_digest(name: &[u8], answer: Digest) {
+pub fn end_line() {
+    write(b"\n");
+}
+
+// The number of the answer's status and its digest, to the end of the line.
+pub fn write_answer(answer: Digest) {
     let status = answer.status;
     let octets = answer.octets;
-    write(name);
-    write(b": ");
     write_status(status);
     write(b" ");
     write_hex(&octets);
-    write(b"\n");
+    end_line();
+}
+
+// A line with a digest.
+pub fn write_digest(name: &[u8], number: usize, answer: Digest) {
+    write_name(name, number);
+    write_answer(answer);
 }

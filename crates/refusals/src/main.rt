@@ -1,10 +1,11 @@
-// Runs calls that are refused, and writes whole tokens, messages and checksums. What it writes is held to the file `stdout`; the
-// tests of the Rust binding make the whole ones again by the second program.
+// Runs calls that are refused, and writes whole tokens, messages and checksums. `rt` compares what it writes with the file `stdout`; the
+// tests of the Rust binding compare the whole ones with the reference implementation.
 mod answers;
 mod messages;
 mod mic_tokens;
 mod samples;
 mod text;
+mod words;
 mod wrap_tokens;
 
 fn main() {

@@ -20,3 +20,26 @@ pub fn write_hex(octets: &[u8]) {
 pub fn write_decimal(n: usize) {
     io::print_decimal(STDOUT_FILENO, n as u64);
 }
+
+// A number after a space.
+pub fn write_next(n: usize) {
+    write(b" ");
+    write_decimal(n);
+}
+
+pub fn end_line() {
+    write(b"\n");
+}
+
+// What a line is about, before its answer.
+pub fn write_name(name: &[u8]) {
+    write(name);
+    write(b": ");
+}
+
+// The octets that a line is about, and its end.
+pub fn write_octets(octets: &[u8]) {
+    write(b": ");
+    write_hex(octets);
+    end_line();
+}

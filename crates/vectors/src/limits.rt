@@ -4,23 +4,31 @@ ghost use lib.ListN.{length};
 use crate::text;
 use primitives::whole;
 
-// A digest of the first `n` octets.
-fn md4(octets: &[u8], n: usize)
-    requires { ⌜ n ≤ length (now octets) ⌝ }
+// The octets of which a call is given the first ones. They are made here and not where they are lent, since the prover takes long
+// over a large array that is made and lent in one function.
+fn octets() -> [u8; 65537] {
+    [0x5au8; 65537]
+}
+
+fn md4(n: usize)
+    requires { ⌜ n ≤ 65537 ⌝ }
 {
+    let octets = octets();
     text::write_digest(b"md4 of ", n, whole::md4(&octets[0..n]));
 }
 
-fn md5(octets: &[u8], n: usize)
-    requires { ⌜ n ≤ length (now octets) ⌝ }
+fn md5(n: usize)
+    requires { ⌜ n ≤ 65537 ⌝ }
 {
+    let octets = octets();
     text::write_digest(b"md5 of ", n, whole::md5(&octets[0..n]));
 }
 
-// An HMAC-MD5 with the first `n` octets as its key.
-fn hmac_md5_key(octets: &[u8], n: usize)
-    requires { ⌜ n ≤ length (now octets) ⌝ }
+// HMAC-MD5 with a key of `n` octets.
+fn hmac_md5_key(n: usize)
+    requires { ⌜ n ≤ 65537 ⌝ }
 {
+    let octets = octets();
     text::write_digest(
         b"hmac_md5 with a key of ",
         n,
@@ -28,28 +36,11 @@ fn hmac_md5_key(octets: &[u8], n: usize)
     );
 }
 
-// An HMAC-MD5 of the first `n` octets.
-fn hmac_md5(octets: &[u8], n: usize)
-    requires { ⌜ n ≤ length (now octets) ⌝ }
+fn hmac_md5(n: usize)
+    requires { ⌜ n ≤ 65537 ⌝ }
 {
+    let octets = octets();
     text::write_digest(b"hmac_md5 of ", n, whole::hmac_md5(b"key", &octets[0..n]));
-}
-
-fn digests(octets: &[u8])
-    requires { ⌜ 65537 ≤ length (now octets) ⌝ }
-{
-    md4(octets, 65536);
-    md4(octets, 65537);
-    md5(octets, 65536);
-    md5(octets, 65537);
-    hmac_md5_key(octets, 0);
-    hmac_md5_key(octets, 64);
-    hmac_md5_key(octets, 65);
-    hmac_md5_key(octets, 65536);
-    hmac_md5_key(octets, 65537);
-    hmac_md5(octets, 0);
-    hmac_md5(octets, 65472);
-    hmac_md5(octets, 65473);
 }
 
 // RC4 with a key of `n` octets 01, over sixteen octets 5a.
@@ -66,7 +57,7 @@ fn rc4_key(n: usize)
     text::end_line();
 }
 
-// Octets run through RC4 under one key: the status, the last octet afterwards, and the MD5 digest of those before it.
+// Data run through RC4 under one key: the status, the last octet afterwards, and the MD5 digest of those before it.
 fn write_rc4(octets: &mut [u8])
     requires { ⌜ 1 ≤ length (now octets) ⌝ }
 {
@@ -81,17 +72,26 @@ fn write_rc4(octets: &mut [u8])
     text::write_answer(whole::md5(&octets[0..last]));
 }
 
-// RC4 over `n` octets 5a.
 fn rc4(n: usize)
     requires { ⌜ (1 ≤ n) × (n ≤ 65537) ⌝ }
 {
-    let mut data = [0x5au8; 65537];
-    write_rc4(&mut data[0..n]);
+    let mut octets = octets();
+    write_rc4(&mut octets[0..n]);
 }
 
 pub fn run() {
-    let data = [0x5au8; 65537];
-    digests(&data);
+    md4(65536);
+    md4(65537);
+    md5(65536);
+    md5(65537);
+    hmac_md5_key(0);
+    hmac_md5_key(64);
+    hmac_md5_key(65);
+    hmac_md5_key(65536);
+    hmac_md5_key(65537);
+    hmac_md5(0);
+    hmac_md5(65472);
+    hmac_md5(65473);
     rc4_key(0);
     rc4_key(1);
     rc4_key(256);

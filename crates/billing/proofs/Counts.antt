@@ -1,6 +1,6 @@
--- No number is billed twice, and the counts are right.
+-- What the clerk bills: no number twice, and what was presented of late; and the counts are right.
 use mathlib.Core.Bool.{Bool, true, false, cond}
-use mathlib.Core.Path.{_≡_, refl, sym, ap, ap₂, _∙_, subst}
+use mathlib.Core.Path.{_≡_, refl, sym, ap, ap₂, _∙_}
 use mathlib.Core.List.{List, [], _∷_}
 use Prim.Native.Nat.{ℕ, zero, suc, _+_, _-_, _%_, _^_, _≤_, _<_, min}
 use native.Mathlib.Nat.{mod-one}
@@ -10,35 +10,77 @@ use lib.Dec.{eqb}
 use lib.ListN.{length}
 use borrow.Author.Tests.{eqb-true, eqb-false}
 use Rattle.billing.specs.Clerk.{member, distances, nextExpected, statusAmong, recorded, clerkBilled, unbilled, clerkMissing}
-use Rattle.billing.specs.Session.{windowAfter, billedBy, SequenceNumbers, Distinct, distinctNumbers}
-use Rattle.billing.specs.Status.{outsideFrom, distance}
+use Rattle.billing.specs.Session.{SequenceNumbers, Distinct, distinctNumbers}
+use Rattle.billing.specs.Status.{outsideFrom, lateMost, distance}
 use Rattle.billing.specs.Window.{isMarked, missing}
 use Rattle.billing.specs.declared.status.Status.{Status}
+use Rattle.billing.specs.declared.window.Window.{Window}
 use Rattle.billing.proofs.Cases.{Case, case-of, outside, in-order, gap, late, duplicate, old}
-use Rattle.billing.proofs.Follows.{billed-numbers, window-holds, billed-clerks}
+use Rattle.billing.proofs.Follows.{Holds, billed-numbers}
 use Rattle.billing.proofs.Marks.{ones-more}
 use Rattle.billing.proofs.Members.{member-first, member-rest, member-distance, not-member, next-more}
 
--- ---- No number twice
+-- ---- What the clerk bills
 
-recorded-distinct : (first n : ℕ) (billed : List ℕ) → Distinct billed → Distinct (recorded (statusAmong first billed n) n billed)
-recorded-distinct first n billed distinct = at (statusAmong first billed n) (case-of (nextExpected (distances first billed)) (member n billed) (distance first n))
+-- A number is billed, being inside and not billed before; or it is not, and has been billed before unless it is outside or old.
+data Recorded (first n : ℕ) (billed : List ℕ) : List ℕ → Type 0 where
+  newly : distance first n < outsideFrom → member n billed ≡ false → Recorded first n billed (n ∷ billed)
+  as-was : (distance first n < outsideFrom → nextExpected (distances first billed) ≤ distance first n + lateMost → member n billed ≡ true) → Recorded first n billed billed
+
+recorded-is : (first n : ℕ) (billed : List ℕ) → Recorded first n billed (recorded (statusAmong first billed n) n billed)
+recorded-is first n billed = at (statusAmong first billed n) (case-of (nextExpected (distances first billed)) (member n billed) (distance first n))
   where
-    at : (s : Status) → Case (nextExpected (distances first billed)) (member n billed) (distance first n) s → Distinct (recorded s n billed)
-    at s (outside h) = distinct
-    at s (in-order h e) = (not-member first n billed (omega arith), distinct)
-    at s (gap h g) = (not-member first n billed (omega arith), distinct)
-    at s (late h g l e) = (e, distinct)
-    at s (duplicate h g l e) = distinct
-    at s (old h g) = distinct
+    at : (s : Status) → Case (nextExpected (distances first billed)) (member n billed) (distance first n) s → Recorded first n billed (recorded s n billed)
+    at s (outside h) = as-was (λ inside near. absurd (omega arith))
+    at s (in-order h e) = newly h (not-member first n billed (omega arith))
+    at s (gap h g) = newly h (not-member first n billed (omega arith))
+    at s (late h g l e) = newly h e
+    at s (duplicate h g l e) = as-was (λ inside near. e)
+    at s (old h g) = as-was (λ inside near. absurd (omega arith))
 
-clerk-distinct : (first : ℕ) (history : List ℕ) → Distinct (clerkBilled first history)
+-- no number twice
+recorded-distinct : {first n : ℕ} {billed then : List ℕ} → Recorded first n billed then → Distinct billed → Distinct then
+recorded-distinct (newly h new) distinct = (new, distinct)
+recorded-distinct (as-was known) distinct = distinct
+
+pub clerk-distinct : (first : ℕ) (history : List ℕ) → Distinct (clerkBilled first history)
 unfolding clerkBilled
 clerk-distinct first [] = tt
-clerk-distinct first (n ∷ history) = recorded-distinct first n (clerkBilled first history) (clerk-distinct first history)
+clerk-distinct first (n ∷ history) = recorded-distinct (recorded-is first n (clerkBilled first history)) (clerk-distinct first history)
 
-pub none-twice : (first : ℕ) (history : List ℕ) → SequenceNumbers history → Distinct (billedBy first history)
-none-twice first history numbers = subst Distinct (sym (billed-clerks first history numbers)) (clerk-distinct first history)
+-- no distance that is outside
+recorded-inside : {first n : ℕ} {billed then : List ℕ} → Recorded first n billed then → nextExpected (distances first billed) ≤ outsideFrom
+    → nextExpected (distances first then) ≤ outsideFrom
+recorded-inside {first} {n} {billed} (newly h new) below = omega (arith, next-more (distance first n) (distances first billed))
+recorded-inside (as-was known) below = below
+
+billed-inside : (first : ℕ) (history : List ℕ) → nextExpected (distances first (clerkBilled first history)) ≤ outsideFrom
+unfolding clerkBilled nextExpected
+billed-inside first [] = omega arith
+billed-inside first (n ∷ history) = recorded-inside (recorded-is first n (clerkBilled first history)) (billed-inside first history)
+
+-- of the numbers that are neither outside nor old, those that were presented
+module _ (first n : ℕ) (inside : distance first n < outsideFrom) where
+  recorded-seen : (m : ℕ) (history : List ℕ) {billed then : List ℕ} → Recorded first m billed then
+      → (nextExpected (distances first billed) ≤ distance first n + lateMost → member n history ≡ member n billed)
+      → nextExpected (distances first then) ≤ distance first n + lateMost → member n (m ∷ history) ≡ member n then
+  unfolding member
+  recorded-seen m history {billed} (newly h new) before near =
+      ap (λ (t : Bool). cond (eqb n m) true t) (before (omega (arith, next-more (distance first m) (distances first billed))))
+  recorded-seen m history {billed} (as-was known) before near = at (eqb n m) refl
+    where
+      at : (t : Bool) → eqb n m ≡ t → cond t true (member n history) ≡ member n billed
+      at true e =
+          let same = eqb-true n m e in
+          let far = ap (distance first) same in
+          sym (ap (λ (i : ℕ). member i billed) same ∙ known (omega arith) (omega arith))
+      at false e = before near
+
+  pub clerk-seen : (history : List ℕ) → nextExpected (distances first (clerkBilled first history)) ≤ distance first n + lateMost
+      → member n history ≡ member n (clerkBilled first history)
+  unfolding clerkBilled
+  clerk-seen [] near = refl
+  clerk-seen (m ∷ history) near = recorded-seen m history (recorded-is first m (clerkBilled first history)) (clerk-seen history) near
 
 -- ---- Distinct numbers below n are at most n
 
@@ -100,39 +142,21 @@ distances-distinct : (first : ℕ) (ns : List ℕ) → SequenceNumbers ns → Di
 distances-distinct first [] numbers distinct = tt
 distances-distinct first (n ∷ ns) numbers distinct = (member-distance first n ns (numbers .0) (numbers .1) ∙ distinct .0, distances-distinct first ns (numbers .1) (distinct .1))
 
--- no billed distance is outside
-recorded-inside : (first n : ℕ) (billed : List ℕ) → nextExpected (distances first billed) ≤ outsideFrom
-    → nextExpected (distances first (recorded (statusAmong first billed n) n billed)) ≤ outsideFrom
-recorded-inside first n billed below = at (statusAmong first billed n) (case-of (nextExpected (distances first billed)) (member n billed) (distance first n))
-  where
-    at : (s : Status) → Case (nextExpected (distances first billed)) (member n billed) (distance first n) s → nextExpected (distances first (recorded s n billed)) ≤ outsideFrom
-    at s (outside h) = below
-    at s (in-order h e) = omega (arith, next-more (distance first n) (distances first billed))
-    at s (gap h g) = omega (arith, next-more (distance first n) (distances first billed))
-    at s (late h g l e) = omega (arith, next-more (distance first n) (distances first billed))
-    at s (duplicate h g l e) = below
-    at s (old h g) = below
-
-billed-inside : (first : ℕ) (history : List ℕ) → nextExpected (distances first (clerkBilled first history)) ≤ outsideFrom
-unfolding clerkBilled nextExpected
-billed-inside first [] = omega arith
-billed-inside first (n ∷ history) = recorded-inside first n (clerkBilled first history) (billed-inside first history)
-
 -- in a list of distinct numbers, all count
 distinct-all : (ns : List ℕ) → Distinct ns → length ns ≡ distinctNumbers ns
 unfolding distinctNumbers
 distinct-all [] distinct = refl
 distinct-all (n ∷ ns) distinct = let rest = distinct-all ns (distinct .1) in rw (distinct .0) (omega arith)
 
-pub count-distinct : (first : ℕ) (history : List ℕ) → SequenceNumbers history → windowAfter first history .billed ≡ distinctNumbers (billedBy first history)
-count-distinct first history numbers =
+pub clerk-count : (first : ℕ) (history : List ℕ) → SequenceNumbers history
+    → length (distances first (clerkBilled first history)) % 2 ^ 64 ≡ distinctNumbers (clerkBilled first history)
+clerk-count first history numbers =
     let billed = clerkBilled first history in
     let ds = distances first billed in
     let all = all-present ds outsideFrom (distances-distinct first billed (billed-numbers first history numbers) (clerk-distinct first history)) (billed-inside first history) in
     let most = present-most ds outsideFrom in
     let exact : length ds % 2 ^ 64 ≡ length ds = omega arith in
-    window-holds first history numbers .counts ∙ exact ∙ distances-length first billed
-    ∙ distinct-all billed (clerk-distinct first history) ∙ ap distinctNumbers (sym (billed-clerks first history numbers))
+    exact ∙ distances-length first billed ∙ distinct-all billed (clerk-distinct first history)
 
 -- ---- What is missing
 
@@ -148,11 +172,9 @@ marks-missing ds next seen (suc j) marks =
     at true e ih = let more : ones (seen % 2 ^ suc j) ≡ 1 + ones (seen % 2 ^ j) = ones-more seen j ∙ ap (λ (t : Bool). cond t 1 0 + ones (seen % 2 ^ j)) e in omega arith
     at false e ih = let more : ones (seen % 2 ^ suc j) ≡ 0 + ones (seen % 2 ^ j) = ones-more seen j ∙ ap (λ (t : Bool). cond t 1 0 + ones (seen % 2 ^ j)) e in omega arith
 
-pub missing-clerks : (first : ℕ) (history : List ℕ) → SequenceNumbers history → missing (windowAfter first history) ≡ clerkMissing first history
+pub missing-clerks : (first : ℕ) (history : List ℕ) (w : Window) → Holds first (distances first (clerkBilled first history)) w → missing w ≡ clerkMissing first history
 unfolding missing clerkMissing
-missing-clerks first history numbers =
+missing-clerks first history w holds =
     let ds = distances first (clerkBilled first history) in
-    let holds = window-holds first history numbers in
-    let seen = windowAfter first history .seen in
-    let sum = marks-missing ds (nextExpected ds) seen (min 64 (nextExpected ds)) (λ k h. holds .marks k (omega arith) (omega arith)) in
-    ap (λ (next : ℕ). min 64 next - ones (seen % 2 ^ min 64 next)) (holds .expects) ∙ omega arith
+    let sum = marks-missing ds (nextExpected ds) (w .seen) (min 64 (nextExpected ds)) (λ k h. holds .marks k (omega arith) (omega arith)) in
+    ap (λ (next : ℕ). min 64 next - ones (w .seen % 2 ^ min 64 next)) (holds .expects) ∙ omega arith

@@ -1,4 +1,4 @@
--- The window follows the clerk: after any history it holds what the clerk has billed, and its next status is the clerk's.
+-- The window follows the clerk: after any tokens it holds what the clerk has billed, and its next status is the clerk's.
 use mathlib.Core.Bool.{Bool, true, false, cond}
 use mathlib.Core.Logic.{_⊎_, inl, inr}
 use mathlib.Core.Path.{_≡_, refl, sym, ap, ap₂, _∙_}
@@ -10,10 +10,15 @@ use lib.Dec.{eqb}
 use lib.ListN.{length}
 use borrow.Author.Tests.{eqb-true, eqb-false}
 use Rattle.tokens.specs.Token.{sequenceNumbers}
+use Rattle.tokens.specs.declared.answer.Sequence.{Sequence}
+use Rattle.tokens.specs.declared.answer.Sequence.the-variants as sequence
 use Rattle.billing.specs.Clerk.{member, distances, nextExpected, statusAmong, recorded, clerkBilled, clerkStatus}
-use Rattle.billing.specs.Session.{windowAfter, statusAfter, billedBy, SequenceNumbers}
+use Rattle.billing.specs.Receive as Receive
+use Rattle.billing.specs.Session.{presented, windowAfter, statusAfter, billedBy, clerkTokenStatus, SequenceNumbers}
 use Rattle.billing.specs.Status.{distance, statusAt, isBilled}
 use Rattle.billing.specs.Window.{newWindow, isMarked, shifted, advanced, filled, placeOf, statusIn, after, step}
+use Rattle.billing.specs.declared.receive.TokenStatus.{TokenStatus}
+use Rattle.billing.specs.declared.receive.TokenStatus.the-variants.{Of}
 use Rattle.billing.specs.declared.status.Status.{Status}
 use Rattle.billing.specs.declared.window.Window.{Window}
 use Rattle.billing.proofs.Cases.{Case, case-of, status-same, outside, in-order, gap, late, duplicate, old}
@@ -124,7 +129,7 @@ module _ (first : ℕ) (billed : List ℕ) (w : Window) (n : ℕ) (fits : n < se
       ap₂ (λ (s : Status) (f : ℕ). after s w (distance f n)) same-status (holds .begins) in
       rw same after-holds
 
--- ---- After any history
+-- ---- After any tokens
 
 recorded-numbers : (b : Bool) (n : ℕ) (ns : List ℕ) → n < sequenceNumbers → SequenceNumbers ns → SequenceNumbers (cond b (n ∷ ns) ns)
 recorded-numbers true n ns fits numbers = (fits, numbers)
@@ -136,20 +141,28 @@ billed-numbers first [] numbers = tt
 billed-numbers first (n ∷ history) numbers =
     recorded-numbers (isBilled (statusAmong first (clerkBilled first history) n)) n (clerkBilled first history) (numbers .0) (billed-numbers first history (numbers .1))
 
-pub window-holds : (first : ℕ) (history : List ℕ) → SequenceNumbers history → Holds first (distances first (clerkBilled first history)) (windowAfter first history)
-unfolding clerkBilled windowAfter
+pub window-holds : (first : ℕ) (tokens : List Sequence) → SequenceNumbers (presented tokens)
+    → Holds first (distances first (clerkBilled first (presented tokens))) (windowAfter first tokens)
+unfolding clerkBilled windowAfter presented
 window-holds first [] numbers = new-holds first
-window-holds first (n ∷ history) numbers =
-    step-holds first (clerkBilled first history) (windowAfter first history) n (numbers .0) (billed-numbers first history (numbers .1)) (window-holds first history (numbers .1))
+window-holds first (sequence.Number n ∷ tokens) numbers =
+    step-holds first (clerkBilled first (presented tokens)) (windowAfter first tokens) n (numbers .0) (billed-numbers first (presented tokens) (numbers .1))
+    (window-holds first tokens (numbers .1))
+window-holds first (sequence.Refused refusal ∷ tokens) numbers = window-holds first tokens numbers
 
-pub status-clerks : (first : ℕ) (history : List ℕ) → SequenceNumbers history → (n : ℕ) → n < sequenceNumbers → statusAfter first history n ≡ clerkStatus first history n
-unfolding clerkStatus
-status-clerks first history numbers n fits =
-    same-status first (clerkBilled first history) (windowAfter first history) n fits (billed-numbers first history numbers) (window-holds first history numbers)
+pub status-clerks : (first : ℕ) (tokens : List Sequence) → SequenceNumbers (presented tokens) → (token : Sequence) → SequenceNumbers (presented (token ∷ []))
+    → statusAfter first tokens token ≡ clerkTokenStatus first (presented tokens) token
+unfolding clerkStatus presented
+status-clerks first tokens numbers (sequence.Number n) fits =
+    ap Of (same-status first (clerkBilled first (presented tokens)) (windowAfter first tokens) n (fits .0) (billed-numbers first (presented tokens) numbers)
+    (window-holds first tokens numbers))
+status-clerks first tokens numbers (sequence.Refused refusal) fits = refl
 
 -- the numbers that the window billed are those that the clerk billed
-pub billed-clerks : (first : ℕ) (history : List ℕ) → SequenceNumbers history → billedBy first history ≡ clerkBilled first history
-unfolding billedBy clerkBilled clerkStatus
+pub billed-clerks : (first : ℕ) (tokens : List Sequence) → SequenceNumbers (presented tokens) → billedBy first tokens ≡ clerkBilled first (presented tokens)
+unfolding billedBy clerkBilled clerkStatus presented
 billed-clerks first [] numbers = refl
-billed-clerks first (n ∷ history) numbers =
-    ap₂ (λ (s : Status) (ns : List ℕ). recorded s n ns) (status-clerks first history (numbers .1) n (numbers .0)) (billed-clerks first history (numbers .1))
+billed-clerks first (sequence.Number n ∷ tokens) numbers =
+    ap₂ (λ (s : TokenStatus) (ns : List ℕ). cond (Receive.isBilled s) (n ∷ ns) ns)
+    (status-clerks first tokens (numbers .1) (sequence.Number n) (numbers .0, tt)) (billed-clerks first tokens (numbers .1))
+billed-clerks first (sequence.Refused refusal ∷ tokens) numbers = billed-clerks first tokens numbers

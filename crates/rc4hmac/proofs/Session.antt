@@ -2,14 +2,15 @@
 use mathlib.Core.Path.{_≡_, refl, sym, ap, ap₂, _∙_}
 use mathlib.Core.Bool.{Bool, true, false, cond}
 use mathlib.Core.List.{List, [], _∷_}
-use Prim.Native.Nat.{ℕ, _≤_, _<_}
+use Prim.Native.Nat.{ℕ, _<_}
 use native.Mathlib.Nat.{mod-eq-of-lt}
 use native.Mathlib.Omega.{arith}
-use Rattle.billing.specs.Receive.{received, windowAfterTokens, presented}
-use Rattle.billing.specs.Status.{outsideFrom, isBilled}
+use Rattle.billing.specs.Receive.{received}
+use Rattle.billing.specs.Session.{windowAfter}
+use Rattle.billing.specs.Status.{isBilled}
 use Rattle.billing.specs.Window.{step}
 use Rattle.billing.specs.declared.window.Window.{Window}
-use Rattle.billing.proofs.Laws.{never-reached, unbilled-leaves, after-first, after-next}
+use Rattle.billing.proofs.Laws.{unbilled-leaves, after-fits}
 use Rattle.tokens.specs.Token.{sequenceNumbers}
 use Rattle.tokens.specs.declared.answer.Sequence.{Sequence}
 use Rattle.tokens.specs.declared.answer.Sequence.the-variants as sequence
@@ -34,20 +35,18 @@ written w (sequence.Number n) = at (isBilled (step w n .status)) refl
     at false e = ap windowWords (sym (unbilled-leaves w n e))
 
 module _ (first : ℕ) (fits : first < sequenceNumbers) where
-  session-reads : (tokens : List Sequence) → windowOf (windowWords (windowAfterTokens first tokens)) ≡ windowAfterTokens first tokens
+  session-reads : (tokens : List Sequence) → windowOf (windowWords (windowAfter first tokens)) ≡ windowAfter first tokens
   session-reads tokens =
-      let same = never-reached first tokens in
-      let begins : windowAfterTokens first tokens .first ≡ first = ap (λ (w : Window). w .first) same ∙ after-first first (presented tokens) in
-      let expects : windowAfterTokens first tokens .next ≤ outsideFrom = rw same (after-next first (presented tokens)) in
-      read-back (windowAfterTokens first tokens) (omega arith) (omega arith)
+      let small = after-fits first tokens in
+      read-back (windowAfter first tokens) (omega (arith, small .0)) (omega (arith, small .1))
 
-  words-are : (tokens : List Sequence) → sessionWords first tokens ≡ windowWords (windowAfterTokens first tokens)
-  unfolding sessionWords windowAfterTokens
+  words-are : (tokens : List Sequence) → sessionWords first tokens ≡ windowWords (windowAfter first tokens)
+  unfolding sessionWords windowAfter
   words-are [] = refl
   words-are (token ∷ tokens) =
       ap (λ (words : List ℕ). wordsAfter (received (windowOf words) token) words) (words-are tokens)
-      ∙ ap (λ (w : Window). wordsAfter (received w token) (windowWords (windowAfterTokens first tokens))) (session-reads tokens)
-      ∙ written (windowAfterTokens first tokens) token
+      ∙ ap (λ (w : Window). wordsAfter (received w token) (windowWords (windowAfter first tokens))) (session-reads tokens)
+      ∙ written (windowAfter first tokens) token
 
   pub keeps-window : (tokens : List Sequence) → KeepsWindow first tokens
   keeps-window tokens = record { words-are = words-are tokens; read-as = ap windowOf (words-are tokens) ∙ session-reads tokens }

@@ -3,7 +3,8 @@
 use mathlib.Core.Path.{_≡_}
 use mathlib.Core.List.{List, [], _∷_}
 use Prim.Native.Nat.{ℕ}
-use Rattle.billing.specs.Receive.{received, windowAfterTokens}
+use Rattle.billing.specs.Receive.{received}
+use Rattle.billing.specs.Session.{windowAfter}
 use Rattle.billing.specs.Window.{newWindow}
 use Rattle.tokens.specs.declared.answer.Sequence.{Sequence}
 use Rattle.rc4hmac.specs.Answers.{windowWords, wordsAfter}
@@ -17,8 +18,8 @@ sessionWords first (token ∷ tokens) =
     let words : List ℕ = sessionWords first tokens in
     wordsAfter (received (windowOf words) token) words
 
--- They hold the window of the session, so that what `billing` says of sessions (`NeverReached`, `BillsOnce`) is said of the calls. For
--- every first number below 2^32 and all calls (`keeps-window` of `proofs/Session.antt`).
+-- They hold the window of the session, the one that `BillsOnce` of `billing` is about: so `BillsOnce` is said of the calls. For every
+-- first number below 2^32 and all calls (`keeps-window` of `proofs/Session.antt`).
 pub record KeepsWindow (first : ℕ) (tokens : List Sequence) : Type 0 where
-  pub words-are : sessionWords first tokens ≡ windowWords (windowAfterTokens first tokens)
-  pub read-as : windowOf (sessionWords first tokens) ≡ windowAfterTokens first tokens
+  pub words-are : sessionWords first tokens ≡ windowWords (windowAfter first tokens)
+  pub read-as : windowOf (sessionWords first tokens) ≡ windowAfter first tokens

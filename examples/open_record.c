@@ -1,5 +1,6 @@
 /* Opens one firing record, the framed Wrap token of samples/record.token, and
- * bills its number in the window of a session whose first number is 7:
+ * bills its number in the window of a session whose first number is 7, both in
+ * one call:
  *   cc -I include examples/open_record.c target/staticlib/librc4hmac.a */
 
 #include <inttypes.h>
@@ -31,11 +32,11 @@ int main(void)
     size_t len;
 
     rc4hmac_window_new(7, window);
-    if (rc4hmac_framed_wrap_open(key, FULL_STRENGTH, INITIATOR,
-                                 token, sizeof token, 0, sizeof token,
-                                 &sequence, &sealed, &len) != RC4HMAC_DONE)
+    if (rc4hmac_receive_framed_wrap(window, key, FULL_STRENGTH, INITIATOR,
+                                    token, sizeof token, 0, sizeof token,
+                                    &sequence, &sealed, &len,
+                                    &status) != RC4HMAC_DONE)
         return 1;
-    rc4hmac_window_bill(window, sequence, &status);
     printf("sequence %" PRIu32 "\nstatus %" PRIu32 "\nrecord %.*s\n", sequence,
            status, (int)len, (const char *)token + sizeof token - 1 - len);
     return 0;

@@ -13,9 +13,9 @@
 extern "C" {
 #endif
 
-/* Every function answers a refusal number, the lowest that applies; the readers
- * of framed tokens have an order of their own, which is told there. With a
- * refusal every digest, key, checksum, length, number and status written is
+/* Every function returns a refusal number, the lowest that applies; the calls
+ * that read framed tokens have an order of their own, which is told there. With
+ * a refusal every digest, key, checksum, length, number and status written is
  * zero, and no octet of lent data and no word of a window is changed.
  *
  * Assumed of a caller:
@@ -129,9 +129,9 @@ uint32_t rc4hmac_checksum(const uint8_t key[16], uint32_t usage,
                           const uint8_t *data, size_t data_len,
                           uint8_t checksum[16]);
 
-/* Whether `checksum` is the keyed checksum of the data, by the answer: done,
- * or RC4HMAC_REFUSED_CHECKSUM. A checksum that is not RC4HMAC_CHECKSUM_LEN
- * octets long is refused for its length. */
+/* Verifies that `checksum` is the keyed checksum of the data: returns
+ * RC4HMAC_DONE or RC4HMAC_REFUSED_CHECKSUM. A checksum that is not
+ * RC4HMAC_CHECKSUM_LEN octets long is refused for its length. */
 uint32_t rc4hmac_checksum_test(const uint8_t key[16], uint32_t usage,
                                const uint8_t *data, size_t data_len,
                                const uint8_t *checksum, size_t checksum_len);
@@ -191,9 +191,9 @@ uint32_t rc4hmac_mic_write(const uint8_t key[16], uint32_t export_strength,
                            uint8_t *buf, size_t buf_len,
                            size_t start, size_t *written);
 
-/* Whether the `length` octets at `start`, RC4HMAC_MIC_LEN and no other number,
- * are a MIC token of the data, by the answer: done, or the refusal for the
- * header, the direction or the checksum. The sequence number is written to
+/* Verifies that the `length` octets at `start`, RC4HMAC_MIC_LEN and no other
+ * number, are a MIC token of the data: returns RC4HMAC_DONE, or the refusal for
+ * the header, the direction or the checksum. The sequence number is written to
  * `sequence`; nothing is written to the buffer. */
 uint32_t rc4hmac_mic_read(const uint8_t key[16], uint32_t export_strength,
                           uint32_t acceptor,
@@ -248,8 +248,9 @@ uint32_t rc4hmac_wrap_open(const uint8_t key[16], uint32_t export_strength,
  * in the frame: RC4HMAC_REFUSED_LENGTH, for the data or the token, comes first
  * of these, and so after the two others.
  *
- * To bill a framed token, hand the number that its reader wrote, if that
- * answered RC4HMAC_DONE, to rc4hmac_window_bill. */
+ * rc4hmac_receive_framed_wrap and rc4hmac_receive_framed_mic, below, open or
+ * read a framed token and bill its number in one call. They refuse as the
+ * readers here do. */
 
 /* Writes the framed MIC token of 0 to RC4HMAC_MESSAGE_MAX octets of data and a
  * sequence number to the RC4HMAC_FRAMED_MIC_LEN octets at `start`, and that
@@ -261,9 +262,9 @@ uint32_t rc4hmac_framed_mic_write(const uint8_t key[16],
                                   uint8_t *buf, size_t buf_len,
                                   size_t start, size_t *written);
 
-/* Whether the `length` octets at `start` are a framed MIC token of the data, by
- * the answer. The sequence number is written to `sequence`; nothing is written
- * to the buffer. */
+/* Verifies that the `length` octets at `start` are a framed MIC token of the
+ * data. The sequence number is written to `sequence`; nothing is written to the
+ * buffer. */
 uint32_t rc4hmac_framed_mic_read(const uint8_t key[16],
                                  uint32_t export_strength, uint32_t acceptor,
                                  const uint8_t *data, size_t data_len,
@@ -321,9 +322,9 @@ uint32_t rc4hmac_framed_wrap_open(const uint8_t key[16],
  * In order, gap and late are billed; nothing else is, and nothing else changes
  * the window.
  *
- * The status is written to `status`. The answer is a refusal number here too,
- * 0 with every status: a caller who tests for 0 drops no billed token, and the
- * status says whether it was billed.
+ * The status is written to `status`. What is returned is a refusal number here
+ * too, 0 with every status: a caller who tests for 0 drops no billed token, and
+ * the status says whether it was billed.
  *
  * A window is four words that the caller keeps; the library keeps nothing:
  *   0  the first number;
@@ -342,16 +343,19 @@ uint32_t rc4hmac_framed_wrap_open(const uint8_t key[16],
  * so changed is refused, but for one chance in 2^64. */
 
 /* Makes the window new, whatever it held, for a session whose first sequence
- * number is `first`. Answers 0. */
+ * number is `first`. Returns 0. */
 uint32_t rc4hmac_window_new(uint32_t first, uint64_t window[4]);
 
-/* Bills a sequence number, or does not, by its status. Answers 0. */
+/* Bills a sequence number, or does not, by its status. Returns 0. This call
+ * knows of no token: a reader that refuses one writes 0 as its number, and that
+ * 0 would be billed here. The four calls that receive tokens, below, bill the
+ * number of a token only if it was not refused. */
 uint32_t rc4hmac_window_bill(uint64_t window[4], uint32_t sequence,
                              uint32_t *status);
 
 /* How many of the RC4HMAC_WINDOW_MARKS distances below the next expected one,
  * or of all below it if they are fewer, have not been billed: 0 for a new
- * window. Answers 0. */
+ * window. Returns 0. */
 uint32_t rc4hmac_window_missing(const uint64_t window[4], uint32_t *missing);
 
 /* Opens a Wrap token as rc4hmac_wrap_open does, and bills its sequence number
@@ -377,6 +381,34 @@ uint32_t rc4hmac_receive_mic(uint64_t window[4],
                              const uint8_t *buf, size_t buf_len,
                              size_t start, size_t length,
                              uint32_t *sequence, uint32_t *status);
+
+/* Opens a framed Wrap token as rc4hmac_framed_wrap_open does, with its refusals
+ * in their order, and bills its sequence number as rc4hmac_window_bill does. A
+ * token that is not billed is opened all the same: the message of a duplicate
+ * stands plain in the region, from start + length - 1 - message_len. A refused
+ * token never reaches the window, which is left as it came, and its status is
+ * RC4HMAC_STATUS_NONE. */
+uint32_t rc4hmac_receive_framed_wrap(uint64_t window[4],
+                                     const uint8_t key[16],
+                                     uint32_t export_strength,
+                                     uint32_t acceptor,
+                                     uint8_t *buf, size_t buf_len,
+                                     size_t start, size_t length,
+                                     uint32_t *sequence, uint32_t *sealed,
+                                     size_t *message_len, uint32_t *status);
+
+/* Reads a framed MIC token as rc4hmac_framed_mic_read does, with its refusals
+ * in their order, and bills its sequence number as rc4hmac_window_bill does. A
+ * refused token never reaches the window, which is left as it came, and its
+ * status is RC4HMAC_STATUS_NONE. */
+uint32_t rc4hmac_receive_framed_mic(uint64_t window[4],
+                                    const uint8_t key[16],
+                                    uint32_t export_strength,
+                                    uint32_t acceptor,
+                                    const uint8_t *data, size_t data_len,
+                                    const uint8_t *buf, size_t buf_len,
+                                    size_t start, size_t length,
+                                    uint32_t *sequence, uint32_t *status);
 
 #ifdef __cplusplus
 }

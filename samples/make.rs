@@ -63,17 +63,18 @@ fn record() -> Vec<u8> {
 fn morning() -> Vec<u8> {
     let sealed = |nth, sequence, record| framed(&INITIATOR, nth, sequence, true, record);
     let fourth = sealed(4, 0, "kiln 2 firing 1 cone 04 1060 C 7 h");
-    let resent = sealed(6, 4, "kiln 3 firing 2 cone 6 1222 C 8 h");
     let tokens = [
         sealed(1, FIRST, "kiln 3 firing 1 cone 6 1222 C 8 h"),
         sealed(2, FIRST + 1, "kiln 1 firing 1 cone 022 590 C 4 h"),
         sealed(3, FIRST + 2, ""),
+        // Refused before 0 is billed: a program that bills the zero that stands
+        // for the number of a refused token calls the next one a duplicate.
+        damaged(fourth.clone()),
         fourth.clone(),
         fourth,
         // 1 and 2 have not come.
         sealed(5, 3, LONG),
-        damaged(resent.clone()),
-        resent,
+        sealed(6, 4, "kiln 3 firing 2 cone 6 1222 C 8 h"),
         framed(&ACCEPTOR, 7, 1000, true, "received to firing 2 of kiln 3"),
         sealed(8, 5, LONGEST),
         sealed(9, 1, "kiln 1 firing 2 cone 022 590 C 4 h"),

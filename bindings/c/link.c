@@ -1033,6 +1033,217 @@ static void check_receive_mics(void)
                       RC4HMAC_STATUS_IN_ORDER, 2, 3, 2);
 }
 
+/* Receives the acceptor's framed sealed token from a copy with the octet `at`
+ * changed by `change`, by a window that stays as it is unless the token is
+ * billed. Octets that are no part of the region stand around it. */
+static void check_receive_framed_wrap(const char *what, uint64_t *window,
+                                      size_t at, uint8_t change,
+                                      size_t length, uint32_t expected,
+                                      uint32_t expected_status)
+{
+    uint8_t buf[sizeof framed_token + 5u], before[sizeof framed_token + 5u];
+    uint64_t came[RC4HMAC_WINDOW_WORDS];
+    uint32_t sequence = 99, sealed = 99, status = 99;
+    size_t message_len = 99;
+    size_t len = sizeof framed_token;
+    uint32_t answer;
+    int holds;
+
+    memset(before, 0x5a, sizeof before);
+    memcpy(before + 3, framed_token, len);
+    before[3 + at] ^= change;
+    memcpy(buf, before, sizeof buf);
+    memcpy(came, window, sizeof came);
+    answer = rc4hmac_receive_framed_wrap(window, token_key, 1, 1,
+                                         buf, sizeof buf, 3, length,
+                                         &sequence, &sealed, &message_len,
+                                         &status);
+    holds = answer == expected && status == expected_status;
+    if (expected == RC4HMAC_DONE) {
+        holds = holds && sequence == TOKEN_SEQUENCE && sealed == 1
+            && message_len == 4
+            && memcmp(buf, before, 3 + 13 + 24) == 0
+            && memcmp(buf + 3 + 13 + 24, token_confounder, 8) == 0
+            && memcmp(buf + 3 + len - 1 - message_len, "kiln\001", 5) == 0
+            && all_are(buf + 3 + len, 2, 0x5a);
+    } else {
+        holds = holds && sequence == 0 && sealed == 0 && message_len == 0
+            && memcmp(buf, before, sizeof buf) == 0;
+    }
+    if (expected_status != RC4HMAC_STATUS_GAP) {
+        holds = holds && memcmp(window, came, sizeof came) == 0;
+    }
+    check(what, holds);
+}
+
+/* A frame of 13 octets without a token, and one around a token with another
+ * pad, which the initiator sent at full strength. */
+static void check_receive_framed_whole(const char *what, uint64_t *window,
+                                       const uint8_t *token, size_t token_len,
+                                       uint32_t expected)
+{
+    uint8_t buf[13u + sizeof other_pad], before[13u + sizeof other_pad];
+    uint64_t came[RC4HMAC_WINDOW_WORDS];
+    uint32_t sequence = 99, sealed = 99, status = 99;
+    size_t message_len = 99;
+    uint32_t answer;
+
+    memcpy(before, framed_token, 13);
+    before[1] = (uint8_t)(11u + token_len);
+    memcpy(before + 13, token, token_len);
+    memcpy(buf, before, 13u + token_len);
+    memcpy(came, window, sizeof came);
+    answer = rc4hmac_receive_framed_wrap(window, token_key, 0, 0,
+                                         buf, 13u + token_len,
+                                         0, 13u + token_len,
+                                         &sequence, &sealed, &message_len,
+                                         &status);
+    check(what,
+          answer == expected && sequence == 0 && sealed == 0
+              && message_len == 0 && status == RC4HMAC_STATUS_NONE
+              && memcmp(buf, before, 13u + token_len) == 0
+              && memcmp(window, came, sizeof came) == 0);
+}
+
+static void check_receive_framed_wraps(void)
+{
+    /* Each octet here is changed by the lowest bit. */
+    static const struct {
+        const char *what;
+        size_t at;
+        uint32_t expected;
+    } changes[] = {
+        { "another tag leaves the window", 0, RC4HMAC_REFUSED_FRAME },
+        { "another length leaves the window", 1, RC4HMAC_REFUSED_FRAME },
+        { "another mechanism leaves the window", 12, RC4HMAC_REFUSED_FRAME },
+        { "another header in a frame leaves the window", 13,
+          RC4HMAC_REFUSED_HEADER },
+        { "another direction in a frame leaves the window", 13 + 12,
+          RC4HMAC_REFUSED_DIRECTION },
+        { "a damaged token in a frame leaves the window", 13 + 34,
+          RC4HMAC_REFUSED_CHECKSUM }
+    };
+    uint64_t window[RC4HMAC_WINDOW_WORDS];
+    size_t len = sizeof framed_token;
+    size_t i;
+
+    rc4hmac_window_new(TOKEN_SEQUENCE - 3u, window);
+    for (i = 0; i < sizeof changes / sizeof changes[0]; i++) {
+        check_receive_framed_wrap(changes[i].what, window, changes[i].at, 1,
+                                  len, changes[i].expected,
+                                  RC4HMAC_STATUS_NONE);
+    }
+    check_receive_framed_wrap("a frame cut off leaves the window", window,
+                              0, 0, len - 1u, RC4HMAC_REFUSED_FRAME,
+                              RC4HMAC_STATUS_NONE);
+    check_receive_framed_wrap("a region past the buffer comes before a frame",
+                              window, 0, 1, len + 3u, RC4HMAC_REFUSED_REGION,
+                              RC4HMAC_STATUS_NONE);
+    check_receive_framed_whole("a frame without a token leaves the window",
+                               window, other_pad, 0, RC4HMAC_REFUSED_LENGTH);
+    check_receive_framed_whole("another pad in a frame leaves the window",
+                               window, other_pad, sizeof other_pad,
+                               RC4HMAC_REFUSED_PAD);
+    check("refused framed tokens have billed no number",
+          window_is(window, TOKEN_SEQUENCE - 3u, 0, 0, 0));
+
+    check_receive_framed_wrap("a framed token is opened and billed", window,
+                              0, 0, len, RC4HMAC_DONE, RC4HMAC_STATUS_GAP);
+    check("the window has billed one framed token",
+          window_is(window, TOKEN_SEQUENCE - 3u, 4, 1, 1));
+    check_receive_framed_wrap("the framed token again is not billed", window,
+                              0, 0, len, RC4HMAC_DONE,
+                              RC4HMAC_STATUS_DUPLICATE);
+
+    /* Where 0 is the next number. */
+    rc4hmac_window_new(0, window);
+    check_receive_framed_wrap("a refused framed token does not bill 0", window,
+                              13 + 34, 1, len, RC4HMAC_REFUSED_CHECKSUM,
+                              RC4HMAC_STATUS_NONE);
+    check("a window that expects 0 still expects it",
+          window_is(window, 0, 0, 0, 0));
+}
+
+/* Receives a framed MIC of "kiln" that has one octet changed, and that stays as
+ * it is, for the data. */
+static void check_receive_framed_mic(const char *what, uint64_t *window,
+                                     size_t at, uint8_t change,
+                                     const char *data, size_t length,
+                                     uint32_t expected,
+                                     uint32_t expected_sequence,
+                                     uint32_t expected_status,
+                                     uint64_t expected_next,
+                                     uint64_t expected_seen,
+                                     uint64_t expected_billed)
+{
+    uint8_t buf[sizeof framed_mic], before[sizeof framed_mic];
+    uint32_t sequence = 99, status = 99;
+    uint32_t answer;
+
+    memcpy(before, framed_mic, sizeof before);
+    before[at] ^= change;
+    memcpy(buf, before, sizeof buf);
+    answer = rc4hmac_receive_framed_mic(window, token_key, 0, 0,
+                                        (const uint8_t *)data, strlen(data),
+                                        buf, sizeof buf, 0, length,
+                                        &sequence, &status);
+    check(what,
+          answer == expected && sequence == expected_sequence
+              && status == expected_status
+              && memcmp(buf, before, sizeof buf) == 0
+              && window_is(window, TOKEN_SEQUENCE, expected_next,
+                           expected_seen, expected_billed));
+}
+
+static void check_receive_framed_mics(void)
+{
+    uint64_t window[RC4HMAC_WINDOW_WORDS];
+    uint32_t sequence = 99, status = 99;
+    size_t len = sizeof framed_mic;
+    uint32_t answer;
+
+    rc4hmac_window_new(TOKEN_SEQUENCE, window);
+    check_receive_framed_mic("a framed MIC past the buffer leaves the window",
+                             window, 0, 1, "kiln", len + 1u,
+                             RC4HMAC_REFUSED_REGION, 0,
+                             RC4HMAC_STATUS_NONE, 0, 0, 0);
+    check_receive_framed_mic("a framed MIC with another tag leaves the window",
+                             window, 0, 1, "kiln", len,
+                             RC4HMAC_REFUSED_FRAME, 0,
+                             RC4HMAC_STATUS_NONE, 0, 0, 0);
+    answer = rc4hmac_receive_framed_mic(window, token_key, 0, 0,
+                                        too_long, RC4HMAC_MESSAGE_MAX + 1u,
+                                        framed_mic, len, 0, len,
+                                        &sequence, &status);
+    check("a framed MIC of data one octet too long leaves the window",
+          answer == RC4HMAC_REFUSED_LENGTH && sequence == 0
+              && status == RC4HMAC_STATUS_NONE
+              && window_is(window, TOKEN_SEQUENCE, 0, 0, 0));
+    check_receive_framed_mic("a framed MIC with another header leaves it too",
+                             window, 13, 1, "kiln", len,
+                             RC4HMAC_REFUSED_HEADER, 0,
+                             RC4HMAC_STATUS_NONE, 0, 0, 0);
+    check_receive_framed_mic("a framed MIC with another direction does so",
+                             window, 13 + 12, 1, "kiln", len,
+                             RC4HMAC_REFUSED_DIRECTION, 0,
+                             RC4HMAC_STATUS_NONE, 0, 0, 0);
+    check_receive_framed_mic("a framed MIC of other data leaves the window",
+                             window, 0, 0, "kilt", len,
+                             RC4HMAC_REFUSED_CHECKSUM, 0,
+                             RC4HMAC_STATUS_NONE, 0, 0, 0);
+    check_receive_framed_mic("a framed MIC is read and billed", window,
+                             0, 0, "kiln", len, RC4HMAC_DONE, TOKEN_SEQUENCE,
+                             RC4HMAC_STATUS_IN_ORDER, 1, 1, 1);
+    check_receive_framed_mic("the framed MIC again is read and not billed",
+                             window, 0, 0, "kiln", len,
+                             RC4HMAC_DONE, TOKEN_SEQUENCE,
+                             RC4HMAC_STATUS_DUPLICATE, 1, 1, 1);
+    check_receive_framed_mic("a framed MIC with another number is billed so",
+                             window, 13 + 11, 1, "kiln", len,
+                             RC4HMAC_DONE, TOKEN_SEQUENCE ^ 1u,
+                             RC4HMAC_STATUS_IN_ORDER, 2, 3, 2);
+}
+
 int main(void)
 {
     check_md4();
@@ -1064,6 +1275,8 @@ int main(void)
     check_window_missing();
     check_receive_wraps();
     check_receive_mics();
+    check_receive_framed_wraps();
+    check_receive_framed_mics();
 
     if (failed != 0) {
         printf("c: %u checks failed, %u passed\n", failed, passed);

@@ -81,12 +81,69 @@ pub fn read_lead(region: &[u8]) -> Option<usize> {
     Some(region.len() - token.len())
 }
 
+/// What stands at the front of the octets that are held of a capture.
+#[derive(Clone, Copy, Debug, PartialEq, Eq)]
+pub enum Front<'a> {
+    /// A whole frame, whatever follows.
+    Frame(&'a [u8]),
+    /// No frame yet, but octets that follow could make one.
+    Beginning,
+    /// No frame, whatever follows.
+    Neither,
+}
+
+/// The number of a DER length that may be cut off, and what follows it. Of a
+/// number that does not fit, the highest that does: no capture is that long.
+fn front_length(octets: &[u8]) -> Result<(u128, &[u8]), Front<'_>> {
+    let (&first, rest) = octets.split_first().ok_or(Front::Beginning)?;
+    match first {
+        0x00..=0x7f => return Ok((first.into(), rest)),
+        0x80 | 0xff => return Err(Front::Neither),
+        _ => {}
+    }
+    let count = usize::from(first - 0x80);
+    let digits = &rest[..count.min(rest.len())];
+    match digits {
+        [0, ..] => return Err(Front::Neither),
+        [digit, ..] if count == 1 && *digit < 0x80 => return Err(Front::Neither),
+        _ if digits.len() < count => return Err(Front::Beginning),
+        _ => {}
+    }
+    let number = digits.iter().fold(0_u128, |number, &digit| {
+        number.saturating_mul(256).saturating_add(digit.into())
+    });
+    Ok((number, &rest[count..]))
+}
+
+/// Looks at one part after the other, as far as they are held.
+pub fn front(capture: &[u8]) -> Front<'_> {
+    let Some((&tag, rest)) = capture.split_first() else {
+        return Front::Beginning;
+    };
+    if tag != TAG {
+        return Front::Neither;
+    }
+    let (number, rest) = match front_length(rest) {
+        Ok(length) => length,
+        Err(front) => return front,
+    };
+    if number < MECHANISM.len() as u128 {
+        return Front::Neither;
+    }
+    let held = rest.len().min(MECHANISM.len());
+    if rest[..held] != MECHANISM[..held] {
+        return Front::Neither;
+    }
+    if number > rest.len() as u128 {
+        return Front::Beginning;
+    }
+    Front::Frame(&capture[..capture.len() - rest.len() + number as usize])
+}
+
 /// The whole frame that a capture begins with.
 pub fn first_frame(capture: &[u8]) -> Option<&[u8]> {
-    let (number, rest) = split_length(capture.strip_prefix(&[TAG])?)?;
-    if number > rest.len() as u128 {
-        return None;
+    match front(capture) {
+        Front::Frame(frame) => Some(frame),
+        _ => None,
     }
-    let region = &capture[..capture.len() - rest.len() + number as usize];
-    read_lead(region).map(|_| region)
 }

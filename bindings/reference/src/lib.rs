@@ -27,7 +27,9 @@ pub mod window;
 
 pub use checksum::checksum;
 pub use clerk::Clerk;
-pub use frame::{der_length, frame, frame_with, lead, long_form, read_lead, MECHANISM, TAG};
+pub use frame::{
+    der_length, frame, frame_with, front, lead, long_form, read_lead, Front, MECHANISM, TAG,
+};
 pub use hmac::hmac_md5;
 pub use md4::md4;
 pub use md5::md5;

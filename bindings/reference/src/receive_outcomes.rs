@@ -1,6 +1,7 @@
 //! What the calls that open a token and bill it must answer and leave, for any
 //! arguments and any window.
 
+use super::frame_outcomes;
 use super::token::TokenTerms;
 use super::token_outcomes::{mic_read, wrap_open, Reading};
 use super::window::{bill, Words};
@@ -53,4 +54,27 @@ pub fn receive_mic(
     length: usize,
 ) -> Receipt {
     Receipt::of(words, mic_read(terms, data, buf, start, length))
+}
+
+pub fn receive_framed_wrap(
+    words: Words,
+    terms: &TokenTerms,
+    buf: &[u8],
+    start: usize,
+    length: usize,
+) -> Receipt {
+    let reading = frame_outcomes::wrap_open(terms, buf, start, length);
+    Receipt::of(words, reading)
+}
+
+pub fn receive_framed_mic(
+    words: Words,
+    terms: &TokenTerms,
+    data: &[u8],
+    buf: &[u8],
+    start: usize,
+    length: usize,
+) -> Receipt {
+    let reading = frame_outcomes::mic_read(terms, data, buf, start, length);
+    Receipt::of(words, reading)
 }

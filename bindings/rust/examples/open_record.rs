@@ -1,7 +1,8 @@
 //! Opens one firing record, the framed Wrap token of samples/record.token, and
-//! bills its number in the window of a session whose first number is 7.
+//! bills its number in the window of a session whose first number is 7, both in
+//! one call.
 
-use rc4hmac::{framed_wrap_open, Context, Refusal, Sender, Strength, Window};
+use rc4hmac::{Context, Refusal, Sender, Strength, Window};
 
 fn main() -> Result<(), Refusal> {
     let context = Context {
@@ -13,11 +14,10 @@ fn main() -> Result<(), Refusal> {
     let len = token.len();
 
     let mut window = Window::new(7);
-    let opened = framed_wrap_open(&context, &mut token, 0, len)?;
-    let status = window.bill(opened.sequence);
-    let record = &token[len - 1 - opened.message_len..len - 1];
-    println!("sequence {}", opened.sequence);
-    println!("status {status:?}");
+    let received = window.receive_framed_wrap(&context, &mut token, 0, len)?;
+    let record = &token[len - 1 - received.opened.message_len..len - 1];
+    println!("sequence {}", received.opened.sequence);
+    println!("status {:?}", received.status);
     println!("record {}", String::from_utf8_lossy(record));
     Ok(())
 }

@@ -59,23 +59,30 @@
 //! # Ok::<(), rc4hmac::Refusal>(())
 //! ```
 //!
-//! An unframed one with a [`Window`], which bills each sequence number once:
+//! A framed token received in a [`Window`], which bills each sequence number once
+//! and none for a refused token; [`Window::receive_wrap`] does the same for one
+//! without a frame:
 //!
 //! ```
-//! use rc4hmac::{wrap_write, Context, Sender, Status, Strength, Window};
+//! use rc4hmac::{framed_wrap_write, Context, Refusal, Sender, Status, Strength, Window};
 //!
 //! let context = Context {
 //!     key: [7; 16],
 //!     strength: Strength::Full,
 //!     sender: Sender::Initiator,
 //! };
-//! let mut token = [&[0; 32], &b"a record"[..], &[0]].concat();
-//! wrap_write(&context, 1, b"a nonce!", true, &mut token, 0, 8)?;
+//! let mut token = [&[0; 13 + 32], &b"a record"[..], &[0]].concat();
+//! framed_wrap_write(&context, 1, b"a nonce!", true, &mut token, 0, 8)?;
 //!
 //! let mut window = Window::new(1);
+//! let mut damaged = token.clone();
+//! damaged[50] ^= 1;
+//! let received = window.receive_framed_wrap(&context, &mut damaged, 0, 54);
+//! assert_eq!(received, Err(Refusal::Checksum));
+//!
 //! for status in [Status::InOrder, Status::Duplicate] {
 //!     let mut buf = token.clone();
-//!     let received = window.receive_wrap(&context, &mut buf, 0, 41)?;
+//!     let received = window.receive_framed_wrap(&context, &mut buf, 0, 54)?;
 //!     assert_eq!(received.status, status);
 //! }
 //! assert_eq!(window.billed(), 1);

@@ -1,9 +1,9 @@
 //! The functions of the archive as C sees them, in `include/rc4hmac.h`.
 //!
-//! Each answers a refusal number, 0 when done: the lowest that applies, but from
-//! the readers of framed tokens 2 first, then 9, then the lowest of the others.
-//! With a refusal every digest, key, checksum, length, number and status written is
-//! zero, and no octet of lent data and no word of a window is changed.
+//! Each returns a refusal number, 0 when done: the lowest that applies, but from
+//! the calls that read framed tokens 2 first, then 9, then the lowest of the
+//! others. With a refusal every digest, key, checksum, length, number and status
+//! written is zero, and no octet of lent data and no word of a window is changed.
 //! `export_strength`, `acceptor` and `sealed` are 0 for no and anything else for
 //! yes; `acceptor` says who the sender is, for the readers the expected sender.
 //!
@@ -77,6 +77,38 @@ pub type WrapOpen = unsafe extern "C" fn(
     sequence: *mut u32,
     sealed: *mut u32,
     message_len: *mut usize,
+) -> u32;
+
+/// [`rc4hmac_receive_wrap`] or [`rc4hmac_receive_framed_wrap`].
+pub type ReceiveWrap = unsafe extern "C" fn(
+    window: *mut [u64; 4],
+    key: *const [u8; 16],
+    export_strength: u32,
+    acceptor: u32,
+    buf: *mut u8,
+    buf_len: usize,
+    start: usize,
+    length: usize,
+    sequence: *mut u32,
+    sealed: *mut u32,
+    message_len: *mut usize,
+    status: *mut u32,
+) -> u32;
+
+/// [`rc4hmac_receive_mic`] or [`rc4hmac_receive_framed_mic`].
+pub type ReceiveMic = unsafe extern "C" fn(
+    window: *mut [u64; 4],
+    key: *const [u8; 16],
+    export_strength: u32,
+    acceptor: u32,
+    data: *const u8,
+    data_len: usize,
+    buf: *const u8,
+    buf_len: usize,
+    start: usize,
+    length: usize,
+    sequence: *mut u32,
+    status: *mut u32,
 ) -> u32;
 
 extern "C" {
@@ -305,6 +337,42 @@ extern "C" {
     /// number as [`rc4hmac_window_bill`] does; a refused token never reaches
     /// the window.
     pub fn rc4hmac_receive_mic(
+        window: *mut [u64; 4],
+        key: *const [u8; 16],
+        export_strength: u32,
+        acceptor: u32,
+        data: *const u8,
+        data_len: usize,
+        buf: *const u8,
+        buf_len: usize,
+        start: usize,
+        length: usize,
+        sequence: *mut u32,
+        status: *mut u32,
+    ) -> u32;
+
+    /// Opens a framed Wrap token as [`rc4hmac_framed_wrap_open`] does and bills
+    /// its sequence number as [`rc4hmac_window_bill`] does; a refused token
+    /// never reaches the window.
+    pub fn rc4hmac_receive_framed_wrap(
+        window: *mut [u64; 4],
+        key: *const [u8; 16],
+        export_strength: u32,
+        acceptor: u32,
+        buf: *mut u8,
+        buf_len: usize,
+        start: usize,
+        length: usize,
+        sequence: *mut u32,
+        sealed: *mut u32,
+        message_len: *mut usize,
+        status: *mut u32,
+    ) -> u32;
+
+    /// Reads a framed MIC token as [`rc4hmac_framed_mic_read`] does and bills
+    /// its sequence number as [`rc4hmac_window_bill`] does; a refused token
+    /// never reaches the window.
+    pub fn rc4hmac_receive_framed_mic(
         window: *mut [u64; 4],
         key: *const [u8; 16],
         export_strength: u32,

@@ -1,21 +1,26 @@
 //! The receive window of a session, which bills each sequence number once.
 
 use crate::lent::apart_from;
-use crate::{raw, Context, Opened, Refusal, Status, WINDOW_WORDS};
+use crate::raw::{self, ReceiveMic, ReceiveWrap};
+use crate::{Context, Opened, Refusal, Status, WINDOW_WORDS};
 
-/// What [`Window::receive_wrap`] answers of a token.
+/// What [`Window::receive_wrap`] and [`Window::receive_framed_wrap`] return for a
+/// token.
 #[derive(Clone, Copy, Debug, PartialEq, Eq, Hash)]
 pub struct ReceivedWrap {
-    /// What [`wrap_open`](crate::wrap_open) answers of it.
+    /// What [`wrap_open`](crate::wrap_open) or
+    /// [`framed_wrap_open`](crate::framed_wrap_open) returns for it.
     pub opened: Opened,
     /// What its sequence number is to the window.
     pub status: Status,
 }
 
-/// What [`Window::receive_mic`] answers of a token.
+/// What [`Window::receive_mic`] and [`Window::receive_framed_mic`] return for a
+/// token.
 #[derive(Clone, Copy, Debug, PartialEq, Eq, Hash)]
 pub struct ReceivedMic {
-    /// The sequence number, as [`mic_read`](crate::mic_read) answers it.
+    /// The sequence number, as [`mic_read`](crate::mic_read) or
+    /// [`framed_mic_read`](crate::framed_mic_read) returns it.
     pub sequence: u32,
     /// What it is to the window.
     pub status: Status,
@@ -77,7 +82,8 @@ impl Window {
     }
 
     /// Bills a sequence number, or does not, by its status. A number that is
-    /// not billed leaves all words as they were.
+    /// not billed leaves all words as they were. The four methods that receive a
+    /// token bill its number only if it was not refused.
     #[inline]
     pub fn bill(&mut self, sequence: u32) -> Status {
         let mut status = 0;
@@ -158,33 +164,7 @@ impl Window {
         start: usize,
         length: usize,
     ) -> Result<ReceivedWrap, Refusal> {
-        let (mut sequence, mut sealed, mut message_len, mut status) = (0, 0, 0, 0);
-        // SAFETY: the window, `buf` and the four numbers are borrowed alone,
-        // apart from the key.
-        let answer = unsafe {
-            raw::rc4hmac_receive_wrap(
-                &mut self.words,
-                &context.key,
-                context.strength.export(),
-                context.sender.acceptor(),
-                buf.as_mut_ptr(),
-                buf.len(),
-                start,
-                length,
-                &mut sequence,
-                &mut sealed,
-                &mut message_len,
-                &mut status,
-            )
-        };
-        Refusal::check(answer).map(|()| ReceivedWrap {
-            opened: Opened {
-                sequence,
-                sealed: sealed != 0,
-                message_len,
-            },
-            status: Status::of(status),
-        })
+        self.wrap_by(raw::rc4hmac_receive_wrap, context, buf, start, length)
     }
 
     /// Reads a MIC token as [`mic_read`](crate::mic_read) does and bills its
@@ -226,6 +206,174 @@ impl Window {
         start: usize,
         length: usize,
     ) -> Result<ReceivedMic, Refusal> {
+        self.mic_by(raw::rc4hmac_receive_mic, context, data, buf, start, length)
+    }
+
+    /// Opens a framed Wrap token as
+    /// [`framed_wrap_open`](crate::framed_wrap_open) does and bills its sequence
+    /// number as [`bill`](Self::bill) does.
+    ///
+    /// A token that is not billed is opened all the same; its message begins at
+    /// `start + length - 1 - message_len`. The number of a token that is not
+    /// sealed is under no checksum: see [`Window`].
+    ///
+    /// # Errors
+    ///
+    /// As for [`framed_wrap_open`](crate::framed_wrap_open), in its order:
+    /// [`Refusal::Region`], then [`Refusal::Frame`], then those of the token in
+    /// the frame. A refused token never reaches the window; `buf` and the window
+    /// are then as they were:
+    ///
+    /// ```
+    /// use rc4hmac::{framed_wrap_write, Context, Refusal, Sender, Status, Strength, Window};
+    ///
+    /// let context = Context {
+    ///     key: [7; 16],
+    ///     strength: Strength::Full,
+    ///     sender: Sender::Initiator,
+    /// };
+    /// // 13 octets of frame, 32 before the message, the message, and the pad.
+    /// let mut token = [&[0; 13 + 32], &b"a record"[..], &[0]].concat();
+    /// framed_wrap_write(&context, 0, b"a nonce!", true, &mut token, 0, 8)?;
+    ///
+    /// // Neither bills a number, not even 0.
+    /// let mut window = Window::new(0);
+    /// for (at, refusal) in [(48, Refusal::Checksum), (12, Refusal::Frame)] {
+    ///     let mut damaged = token.clone();
+    ///     damaged[at] ^= 1;
+    ///     let received = window.receive_framed_wrap(&context, &mut damaged, 0, 54);
+    ///     assert_eq!(received, Err(refusal));
+    ///     assert_eq!(window, Window::new(0));
+    /// }
+    ///
+    /// for status in [Status::InOrder, Status::Duplicate] {
+    ///     let mut buf = token.clone();
+    ///     let received = window.receive_framed_wrap(&context, &mut buf, 0, 54)?;
+    ///     assert_eq!((received.opened.sequence, received.status), (0, status));
+    ///     assert_eq!(&buf[54 - 1 - received.opened.message_len..], b"a record\x01");
+    /// }
+    /// assert_eq!(window.billed(), 1);
+    /// # Ok::<(), Refusal>(())
+    /// ```
+    #[inline]
+    pub fn receive_framed_wrap(
+        &mut self,
+        context: &Context,
+        buf: &mut [u8],
+        start: usize,
+        length: usize,
+    ) -> Result<ReceivedWrap, Refusal> {
+        self.wrap_by(
+            raw::rc4hmac_receive_framed_wrap,
+            context,
+            buf,
+            start,
+            length,
+        )
+    }
+
+    /// Reads a framed MIC token as [`framed_mic_read`](crate::framed_mic_read)
+    /// does and bills its sequence number as [`bill`](Self::bill) does. The
+    /// number is under no checksum: see [`Window`].
+    ///
+    /// ```
+    /// use rc4hmac::{framed_mic_write, Context, Refusal, Sender, Status, Strength, Window};
+    /// use rc4hmac::FRAMED_MIC_LEN;
+    ///
+    /// let context = Context {
+    ///     key: [7; 16],
+    ///     strength: Strength::Export,
+    ///     sender: Sender::Acceptor,
+    /// };
+    /// let mut token = [0; FRAMED_MIC_LEN];
+    /// framed_mic_write(&context, 41, b"a record", &mut token, 0)?;
+    ///
+    /// let mut window = Window::new(40);
+    /// let received = window.receive_framed_mic(&context, b"another", &token, 0, 37);
+    /// assert_eq!(received, Err(Refusal::Checksum));
+    /// assert_eq!(window, Window::new(40));
+    ///
+    /// let received = window.receive_framed_mic(&context, b"a record", &token, 0, 37)?;
+    /// assert_eq!((received.sequence, received.status), (41, Status::Gap));
+    /// assert_eq!((window.billed(), window.missing()), (1, 1));
+    /// # Ok::<(), Refusal>(())
+    /// ```
+    ///
+    /// # Errors
+    ///
+    /// As for [`framed_mic_read`](crate::framed_mic_read), in its order:
+    /// [`Refusal::Region`], then [`Refusal::Frame`], then those of the token in
+    /// the frame. A refused token never reaches the window, which is then as it
+    /// was.
+    #[inline]
+    pub fn receive_framed_mic(
+        &mut self,
+        context: &Context,
+        data: &[u8],
+        buf: &[u8],
+        start: usize,
+        length: usize,
+    ) -> Result<ReceivedMic, Refusal> {
+        self.mic_by(
+            raw::rc4hmac_receive_framed_mic,
+            context,
+            data,
+            buf,
+            start,
+            length,
+        )
+    }
+
+    /// By one of the two functions of the archive that have this type.
+    #[inline]
+    fn wrap_by(
+        &mut self,
+        receive: ReceiveWrap,
+        context: &Context,
+        buf: &mut [u8],
+        start: usize,
+        length: usize,
+    ) -> Result<ReceivedWrap, Refusal> {
+        let (mut sequence, mut sealed, mut message_len, mut status) = (0, 0, 0, 0);
+        // SAFETY: the window, `buf` and the four numbers are borrowed alone,
+        // apart from the key.
+        let answer = unsafe {
+            receive(
+                &mut self.words,
+                &context.key,
+                context.strength.export(),
+                context.sender.acceptor(),
+                buf.as_mut_ptr(),
+                buf.len(),
+                start,
+                length,
+                &mut sequence,
+                &mut sealed,
+                &mut message_len,
+                &mut status,
+            )
+        };
+        Refusal::check(answer).map(|()| ReceivedWrap {
+            opened: Opened {
+                sequence,
+                sealed: sealed != 0,
+                message_len,
+            },
+            status: Status::of(status),
+        })
+    }
+
+    /// By one of the two functions of the archive that have this type.
+    #[inline]
+    fn mic_by(
+        &mut self,
+        receive: ReceiveMic,
+        context: &Context,
+        data: &[u8],
+        buf: &[u8],
+        start: usize,
+        length: usize,
+    ) -> Result<ReceivedMic, Refusal> {
         let key = apart_from(&[data, buf], &context.key);
         let data = apart_from(&[buf], data);
         let (mut sequence, mut status) = (0, 0);
@@ -233,7 +381,7 @@ impl Window {
         // them share an octet; the window and the two numbers are borrowed
         // alone.
         let answer = unsafe {
-            raw::rc4hmac_receive_mic(
+            receive(
                 &mut self.words,
                 key.as_ptr().cast(),
                 context.strength.export(),

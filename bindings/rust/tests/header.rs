@@ -1,10 +1,12 @@
-//! The numbers that the C header names beside those of this binding.
+//! The numbers that the C header names beside those of this binding, and the
+//! functions that it declares beside the raw ones.
 
 use std::collections::BTreeMap;
 
 use rc4hmac::{limits, Refusal, Status, Usage};
 
 const HEADER: &str = include_str!("../../../include/rc4hmac.h");
+const RAW: &str = include_str!("../src/raw.rs");
 
 /// Every number that the header defines, by its name without `RC4HMAC_`.
 fn defined() -> BTreeMap<&'static str, usize> {
@@ -110,4 +112,65 @@ fn the_header_names_the_numbers_of_this_binding_and_no_others() {
         assert_eq!(defined.remove(name), Some(number), "{name}");
     }
     assert_eq!(defined, BTreeMap::new());
+}
+
+/// The functions that begin so, and the text of their parameters.
+fn declared(text: &'static str, begins: &str) -> Vec<(&'static str, Vec<&'static str>)> {
+    let declarations = text.split(begins).skip(1);
+    declarations
+        .map(|rest| {
+            let (name, rest) = rest.split_once('(').expect("parameters");
+            let (parameters, _) = rest.split_once(')').expect("their end");
+            let parameters = parameters.split(',').map(str::trim);
+            (name, parameters.filter(|p| !p.is_empty()).collect())
+        })
+        .collect()
+}
+
+/// A parameter of C as Rust declares it.
+fn in_rust(parameter: &str) -> String {
+    let (constant, rest) = match parameter.strip_prefix("const ") {
+        Some(rest) => ("const", rest),
+        None => ("mut", parameter),
+    };
+    let (c_type, name) = rest.split_once(' ').expect("a type and a name");
+    let rust_type = match c_type {
+        "uint8_t" => "u8",
+        "uint16_t" => "u16",
+        "uint32_t" => "u32",
+        "uint64_t" => "u64",
+        "size_t" => "usize",
+        _ => panic!("{c_type}"),
+    };
+    if let Some(name) = name.strip_prefix('*') {
+        format!("{name}: *{constant} {rust_type}")
+    } else if let Some((name, len)) = name.split_once('[') {
+        format!("{name}: *{constant} [{rust_type}; {len}")
+    } else {
+        format!("{name}: {rust_type}")
+    }
+}
+
+#[test]
+fn the_header_declares_the_raw_functions_with_their_parameters_and_no_others() {
+    let header: Vec<(&str, Vec<String>)> = declared(HEADER, "\nuint32_t ")
+        .into_iter()
+        .map(|(name, parameters)| (name, parameters.into_iter().map(in_rust).collect()))
+        .collect();
+    let raw = declared(RAW, "    pub fn ");
+    assert_eq!(header.len(), 25);
+    for ((name, parameters), (raw_name, raw_parameters)) in header.iter().zip(&raw) {
+        assert_eq!(
+            (name, &parameters[..]),
+            (raw_name, &owned(raw_parameters)[..])
+        );
+    }
+    assert_eq!(header.len(), raw.len());
+}
+
+fn owned(parameters: &[&str]) -> Vec<String> {
+    parameters
+        .iter()
+        .map(|parameter| parameter.to_string())
+        .collect()
 }

@@ -6,9 +6,13 @@ ghost use Rattle.tokens.specs.Answer.{sequenceAnswer, sequenceRefusal, sequence
 ghost use Rattle.tokens.specs.Limits.{bufferAfter};
 ghost use Rattle.tokens.specs.Mic.{micReading, ReadsExactly};
 ghost use Rattle.tokens.specs.Wrap.{plain, wrapOpening, unwrappedAnswer, OpensExactly};
+ghost use Rattle.frame.specs.Mic as FramedMic;
+ghost use Rattle.frame.specs.Wrap as FramedWrap;
 ghost use Rattle.billing.specs.Receive as Spec;
 use crate::status::Status;
 use crate::window::Window;
+use frame::mic as framed_mic;
+use frame::wrap as framed_wrap;
 use tokens::answer::Sequence;
 use tokens::answer::Unwrapped;
 use tokens::context::Context;
@@ -128,6 +132,46 @@ pub fn receive_mic(
     ensures billing { λ r. ⌜ r .received ≡ Spec.received window (r .token) ⌝ }
 {
     let token = mic::mic_read(context, data, buf, start, len);
+    ReceivedMic {
+        token: token,
+        received: receive(window, token),
+    }
+}
+
+// Opens the framed Wrap token in the region of `len` octets from `start`, as `framed_wrap_open` does, and bills its sequence number.
+pub fn receive_framed_wrap(
+    window: Window,
+    context: Context,
+    buf: &mut [u8],
+    start: usize,
+    len: usize,
+) -> ReceivedWrap
+    ensures answer { λ r. ⌜ r .token ≡ unwrappedAnswer (FramedWrap.framedWrapOpening context (now (buf .entry)) start len) ⌝ }
+    ensures buffer { λ _. ⌜ now (buf .exit) ≡ FramedWrap.openedBuffer context (now (buf .entry)) start len ⌝ }
+    ensures exact { λ r. ⌜ FramedWrap.OpensExactly context (now (buf .entry)) start len (unwrappedNumber (r .token)) (unwrappedSequence (r .token)) (unwrappedSealed (r .token)) (unwrappedLength (r .token)) (now (buf .exit)) ⌝ }
+    ensures billing { λ r. ⌜ r .received ≡ Spec.received window (Spec.presentedBy (r .token)) ⌝ }
+{
+    let token = framed_wrap::framed_wrap_open(context, buf, start, len);
+    ReceivedWrap {
+        token: token,
+        received: receive(window, presented_by(token)),
+    }
+}
+
+// Reads the framed MIC token in the region of `len` octets from `start`, as `framed_mic_read` does, and bills its sequence number.
+pub fn receive_framed_mic(
+    window: Window,
+    context: Context,
+    data: &[u8],
+    buf: &[u8],
+    start: usize,
+    len: usize,
+) -> ReceivedMic
+    ensures answer { λ r. ⌜ r .token ≡ sequenceAnswer (FramedMic.framedMicReading context (now («data» .entry)) (now (buf .entry)) start len) ⌝ }
+    ensures exact { λ r. ⌜ FramedMic.ReadsExactly context (now («data» .entry)) (now (buf .entry)) start len (sequenceRefusal (r .token)) (sequenceNumber (r .token)) ⌝ }
+    ensures billing { λ r. ⌜ r .received ≡ Spec.received window (r .token) ⌝ }
+{
+    let token = framed_mic::framed_mic_read(context, data, buf, start, len);
     ReceivedMic {
         token: token,
         received: receive(window, token),

@@ -3,6 +3,7 @@ pub mod Laws
 mod Lengths
 mod Contents
 mod Frames
+mod Fronts
 mod Captures
 mod Leads
 mod Regions

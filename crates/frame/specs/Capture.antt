@@ -1,23 +1,21 @@
 -- A capture: frames one after the other, of which some octets are held. What stands at their front.
-use Prim.Native.Nat.{ℕ, _+_}
-use mathlib.Core.Bool.{Bool, cond}
+use Prim.Native.Nat.{ℕ, _+_, _<_}
+use mathlib.Core.Path.{_≡_}
+use mathlib.Core.Bool.{Bool, true, false}
+use mathlib.Core.Logic.{_⊎_}
 use mathlib.Core.List.{List}
-use lib.Dec.{eqb}
 use lib.ListN.{length}
-use Rattle.frame.specs.Framing.{framingIn}
+use Rattle.frame.specs.Framing.{Front, Begun}
 use Rattle.frame.specs.declared.capture.Next.{Next}
 use Rattle.frame.specs.declared.capture.Next.the-variants as next
-use Rattle.frame.specs.declared.framing.Framing.{Framing}
-use Rattle.frame.specs.declared.framing.Framing.the-variants.{Token, Fault}
 
--- a frame has the octets before its token and the token's; a fault may be a frame that goes on after what is held
-unfoldable pub nextOf : Bool → Framing → Next
-nextOf last (Token before n) = next.Frame (before + n)
-nextOf last Fault = cond last next.Fault next.More
-
--- what stands at the front of the octets that are held, the last ones or not
-unfoldable pub nextFrame : List ℕ → Bool → Next
-nextFrame held last = cond (eqb (length held) 0) (cond last next.End next.More) (nextOf last (framingIn held))
+-- What stands at the front of the octets that are held, the last ones or not. A frame that is only begun is a fault where nothing follows.
+-- There is one answer for all octets (`one-next` of `proofs/Laws.antt`).
+abbrev pub NextIs : List ℕ → Bool → Next → Type 0
+NextIs held last (next.Frame n) = (before m : ℕ) × Front held before m × (n ≡ before + m)
+NextIs held last next.More = (last ≡ false) × Begun held
+NextIs held last next.End = (last ≡ true) × (length held ≡ 0)
+NextIs held last next.Fault = ((before m : ℕ) → Front held before m → ⊥) × ((Begun held → ⊥) ⊎ ((last ≡ true) × (0 < length held)))
 
 -- how many octets the frame has, 0 if there is none
 abbrev pub frameOctets : Next → ℕ

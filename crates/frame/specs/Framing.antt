@@ -1,17 +1,19 @@
--- The outer frame of a token: RFC 2743, section 3.1. The rule that writes one, what reading one gives, and that reading succeeds exactly
--- on what the rule writes.
-use Prim.Native.Nat.{ℕ, _+_, _-_}
+-- The outer frame of a token: RFC 2743, section 3.1. The rule that writes one, what stands at the front of some octets, and reading a
+-- region that is a frame. All of it is said over the rule that writes.
+use Prim.Native.Nat.{ℕ, _+_, _-_, _<_}
 use mathlib.Core.Path.{_≡_}
-use mathlib.Core.Bool.{cond, _&&_}
+use mathlib.Core.Bool.{Bool, true}
 use mathlib.Core.List.{List, [], _∷_, _++_}
-use lib.Dec.{eqb, leb}
-use lib.ListN.{length, getD, take, drop}
+use lib.ListN.{length, take, drop}
+use Rattle.tokens.specs.Answer.{Outcome, done, refused, require, andThen}
+use Rattle.tokens.specs.Limits.{inside, region}
 use Rattle.tokens.specs.Octets.{same}
-use Rattle.frame.specs.Length.{derLength, contentsIn}
+use Rattle.tokens.specs.declared.answer.Refusal.the-variants as Refusal
+use Rattle.tokens.specs.declared.answer.Status.the-variants as status
+use Rattle.frame.specs.Length.{derLength, widthIn, Used}
 use Rattle.frame.specs.declared.framing.Framing.{Framing}
-use Rattle.frame.specs.declared.framing.Framing.the-variants.{Token, Fault}
-use Rattle.frame.specs.declared.length.Contents.{Contents}
-use Rattle.frame.specs.declared.length.Contents.the-variants.{Counted, Wrong}
+use Rattle.frame.specs.declared.framing.Framing.the-variants.{Token, Incomplete, Fault}
+use Rattle.frame.specs.declared.framing.Lead.{Lead}
 
 -- ---- Writing
 
@@ -38,25 +40,63 @@ leadLength n = length (lead n)
 unfoldable pub frame : List ℕ → List ℕ
 frame token = lead (length token) ++ token
 
--- ---- Reading
+-- ---- The front of some octets
 
--- the mechanism at the front of what a length of w octets counts
-unfoldable pub framingOf : List ℕ → Contents → Framing
-framingOf octets (Counted w n) = cond (leb 11 n && same (take 11 (drop (1 + w) octets)) mechanism) (Token (12 + w) (n - 11)) Fault
-framingOf octets Wrong = Fault
+-- octets begin with the frame of a token, which has so many octets before the token and so many in it
+pub record Front (octets : List ℕ) (before n : ℕ) : Type 0 where
+  pub token : List ℕ
+  pub rest : List ℕ
+  pub octets-are : octets ≡ frame token ++ rest
+  pub before-is : before ≡ leadLength (length token)
+  pub length-is : n ≡ length token
 
--- the frame at the front of some octets, whatever follows it: how many octets stand before its token, and how many the token has
-unfoldable pub framingIn : List ℕ → Framing
-framingIn octets = cond (eqb (getD octets 0 0) tag) (framingOf octets (contentsIn (drop 1 octets))) Fault
+-- octets are the beginning of a frame, and more is needed
+pub record Begun (octets : List ℕ) : Type 0 where
+  pub token : List ℕ
+  pub more : List ℕ
+  pub some-more : 0 < length more
+  pub used : Used (contents (length token))
+  pub whole-is : octets ++ more ≡ frame token
 
--- it ends where the octets end
-unfoldable pub wholeOf : List ℕ → Framing → Framing
-wholeOf octets (Token before n) = cond (eqb (before + n) (length octets)) (Token before n) Fault
-wholeOf octets Fault = Fault
+-- What stands at the front of some octets. There is one answer for all octets (`one-front` of `proofs/Laws.antt`).
+abbrev pub FrontIs : List ℕ → Framing → Type 0
+FrontIs octets (Token before n) = Front octets before n
+FrontIs octets Incomplete = Begun octets
+FrontIs octets Fault = ((before n : ℕ) → Front octets before n → ⊥) × (Begun octets → ⊥)
 
--- the frame that some octets are
-unfoldable pub framing : List ℕ → Framing
-framing octets = wholeOf octets (framingIn octets)
+-- two lists are the same as far as both go
+unfoldable pub agree : List ℕ → List ℕ → Bool
+agree xs ys = same (take (length ys) xs) (take (length xs) ys)
+
+-- ---- A region that is a frame
+
+-- how many octets stand before the token in a frame, by the first octet of its length
+abbrev pub leadWidth : List ℕ → ℕ
+leadWidth octets = 12 + widthIn (drop 1 octets)
+
+-- whether octets are what the rule writes around those that stand after the lead
+unfoldable pub isFrame : List ℕ → Bool
+isFrame octets = same octets (frame (drop (leadWidth octets) octets))
+
+-- the octets before the token, if some octets are one whole frame
+unfoldable pub leadOf : List ℕ → Outcome ℕ
+leadOf octets = require (isFrame octets) Refusal.Frame (done (leadWidth octets))
+
+-- the same for the region of n octets from start: 2, then 9
+unfoldable pub leadIn : List ℕ → ℕ → ℕ → Outcome ℕ
+leadIn buf start n = require (inside start n buf) Refusal.Region (leadOf (region start n buf))
+
+-- what reading a framed token gives: 2, 9, and then what reading the token gives, which is told where it starts and how many octets it has
+unfoldable pub readFramed : {A : Type 0} → (ℕ → ℕ → Outcome A) → List ℕ → ℕ → ℕ → Outcome A
+readFramed read buf start n = andThen (leadIn buf start n) (λ (lead : ℕ). read (start + lead) (n - lead))
+
+-- what `lead_in` returns: zero octets with a refusal
+abbrev pub leadAnswer : Outcome ℕ → Lead
+leadAnswer (done n) = record { status = status.Done; octets = n }
+leadAnswer (refused r) = record { status = status.Refused r; octets = 0 }
+
+abbrev pub noFrame : Lead
+noFrame = leadAnswer (refused Refusal.Frame)
 
 -- ---- Reading exactly what the rule writes
 
@@ -66,9 +106,9 @@ pub record Framed (Holds : List ℕ → Type 0) (octets : List ℕ) : Type 0 whe
   pub holds : Holds token
   pub as-framed : frame token ≡ octets
 
--- Octets are read as a frame exactly when the rule writes them around some token: only then, and always then. There is one such
--- token. For all octets (`frames-exactly` of `proofs/Laws.antt`).
+-- Octets are a frame exactly when the rule writes them around some token: only then, and always then. There is one such token. For all
+-- octets (`frames-exactly` of `proofs/Laws.antt`).
 pub record FramesExactly (octets : List ℕ) : Type 0 where
-  pub only-then : (before n : ℕ) → framing octets ≡ Token before n → (leadLength n ≡ before) × (length (drop before octets) ≡ n) × (frame (drop before octets) ≡ octets)
-  pub always-then : (token : List ℕ) → frame token ≡ octets → framing octets ≡ Token (leadLength (length token)) (length token)
+  pub only-then : isFrame octets ≡ true → frame (drop (leadWidth octets) octets) ≡ octets
+  pub always-then : (token : List ℕ) → frame token ≡ octets → (isFrame octets ≡ true) × (leadWidth octets ≡ leadLength (length token))
   pub one-token : (s t : List ℕ) → frame s ≡ octets → frame t ≡ octets → s ≡ t

@@ -1,15 +1,14 @@
 -- The length of DER: X.690, sections 8.1.3 and 10.1. The one form that says a number in the fewest octets, what a length says, and that
 -- the form is read back and is the only one so short.
-use Prim.Native.Nat.{ℕ, zero, suc, _+_, _*_, _-_, _/_, _%_, _≤_}
+use Prim.Native.Nat.{ℕ, zero, suc, _+_, _*_, _-_, _/_, _%_, _≤_, _<_}
 use mathlib.Core.Path.{_≡_}
-use mathlib.Core.Bool.{cond, _&&_}
+use mathlib.Core.Bool.{cond}
 use mathlib.Core.List.{List, [], _∷_, _++_}
 use lib.Dec.{leb, ltb}
 use lib.ListN.{length, getD, take, drop}
 use Rattle.primitives.specs.Octets.{Octets}
-use Rattle.tokens.specs.Octets.{same}
 use Rattle.frame.specs.declared.length.Contents.{Contents}
-use Rattle.frame.specs.declared.length.Contents.the-variants.{Counted, Wrong}
+use Rattle.frame.specs.declared.length.Contents.the-variants.{Counted, Cut, Incomplete, Wrong}
 use Rattle.frame.specs.declared.length.Value.{Value}
 use Rattle.frame.specs.declared.length.Value.the-variants.{Number, Above}
 
@@ -54,12 +53,21 @@ widthIn octets = cond (ltb (getD octets 0 0) 128) 1 (getD octets 0 0 - 127)
 unfoldable pub valueIn : List ℕ → ℕ
 valueIn octets = cond (ltb (getD octets 0 0) 128) (getD octets 0 0) (valueAfter 0 (take (getD octets 0 0 - 128) (drop 1 octets)))
 
--- a length in the shortest form, if all that it counts follows it: the octets that it takes, and how many it counts
-unfoldable pub contentsIn : List ℕ → Contents
-contentsIn octets =
-    cond (same (take (widthIn octets) octets) (derLength (valueIn octets)) && leb (widthIn octets + valueIn octets) (length octets))
-    (Counted (widthIn octets) (valueIn octets))
-    Wrong
+-- the first octet of a length is not ff, which is set aside (8.1.3.5, c)
+abbrev pub Used : ℕ → Type 0
+Used n = getD (derLength n) 0 0 < 0xff
+
+-- What stands at the front of some octets, of the lengths that count at least `least`: one that is there with all that it counts; one that
+-- is there, with less; the beginning of one; or none, whatever follows.
+abbrev pub LengthIs : ℕ → List ℕ → Contents → Type 0
+LengthIs least octets (Counted w n) = (rest : List ℕ) × (octets ≡ derLength n ++ rest) × (w ≡ length (derLength n)) × (least ≤ n) × (n ≤ length rest)
+LengthIs least octets (Cut w) = (n : ℕ) × (rest : List ℕ) × (octets ≡ derLength n ++ rest) × (w ≡ length (derLength n)) × (least ≤ n) × (length rest < n) × Used n
+LengthIs least octets Incomplete = (n : ℕ) × (more : List ℕ) × (octets ++ more ≡ derLength n) × (least ≤ n) × (0 < length more) × Used n
+LengthIs least octets Wrong = (n : ℕ) → least ≤ n → Used n → (rest more : List ℕ) → octets ++ more ≡ derLength n ++ rest → ⊥
+
+-- a length below 128, which is one octet, with so many octets after it
+abbrev pub shortForm : ℕ → ℕ → ℕ → Contents
+shortForm least n rest = cond (ltb n least) Wrong (cond (ltb rest n) (Cut 1) (Counted 1 n))
 
 -- ---- The shortest form is read back, and is the only one so short
 

@@ -3,7 +3,6 @@
 pub mod Length
 pub mod Framing
 pub mod Capture
-pub mod Answer
 pub mod Mic
 pub mod Wrap
 pub mod Rows

@@ -8,8 +8,7 @@ use Rattle.tokens.specs.Limits.{mostMessage, within, inside, region}
 use Rattle.tokens.specs.Mic as Mic
 use Rattle.tokens.specs.declared.answer.Refusal.the-variants.{Length, Region}
 use Rattle.tokens.specs.declared.context.Context.{Context}
-use Rattle.frame.specs.Answer.{Reading, readFramed}
-use Rattle.frame.specs.Framing.{leadLength, frame, Framed}
+use Rattle.frame.specs.Framing.{leadLength, frame, readFramed, Framed}
 
 -- what `framed_mic_write` makes: the octets of the region
 unfoldable pub framedMicWriting : Context → ℕ → List ℕ → List ℕ → ℕ → Outcome (List ℕ)
@@ -19,7 +18,7 @@ framedMicWriting context n text buf start =
     (done (frame (Mic.micToken context n text))))
 
 -- what `framed_mic_read` finds in a region
-unfoldable pub framedMicReading : Context → List ℕ → List ℕ → ℕ → ℕ → Reading ℕ
+unfoldable pub framedMicReading : Context → List ℕ → List ℕ → ℕ → ℕ → Outcome ℕ
 framedMicReading context text buf start n = readFramed (Mic.micReading context text buf) buf start n
 
 -- ---- Reading exactly what the rules write

@@ -5,13 +5,12 @@ use mathlib.Core.Bool.{Bool}
 use mathlib.Core.List.{List}
 use lib.ListN.{length}
 use Rattle.tokens.specs.Answer.{Outcome, done, require}
-use Rattle.tokens.specs.Limits.{mostMessage, within, inside, region}
+use Rattle.tokens.specs.Limits.{mostMessage, within, inside, region, bufferAfter}
 use Rattle.tokens.specs.Wrap as Wrap
 use Rattle.tokens.specs.Wrap.{Parts, parts, wrapToken, wrapLength, messageAt}
 use Rattle.tokens.specs.declared.answer.Refusal.the-variants.{Length, Region}
 use Rattle.tokens.specs.declared.context.Context.{Context}
-use Rattle.frame.specs.Answer.{Reading, readFramed}
-use Rattle.frame.specs.Framing.{lead, leadLength, frame, Framed}
+use Rattle.frame.specs.Framing.{lead, leadLength, frame, leadWidth, readFramed, Framed}
 
 -- the octets before a token whose message has n octets
 unfoldable pub wrapLead : ℕ → Outcome (List ℕ)
@@ -29,8 +28,12 @@ framedWrapWriting context sequence confounder sealed buf start n =
     (done (frame (wrapToken context (parts sequence sealed confounder (region (framedMessageAt start n) n buf))))))
 
 -- what `framed_wrap_open` finds in a region
-unfoldable pub framedWrapOpening : Context → List ℕ → ℕ → ℕ → Reading Parts
+unfoldable pub framedWrapOpening : Context → List ℕ → ℕ → ℕ → Outcome Parts
 framedWrapOpening context buf start n = readFramed (Wrap.wrapOpening context buf) buf start n
+
+-- the buffer after it: confounder, message and pad plain, 24 octets after the token's start, and all else as it came
+abbrev pub openedBuffer : Context → List ℕ → ℕ → ℕ → List ℕ
+openedBuffer context buf start n = bufferAfter Wrap.plain (start + leadWidth (region start n buf) + 24) buf (framedWrapOpening context buf start n)
 
 -- ---- Opening exactly what the rules write
 

@@ -1,5 +1,4 @@
 // A capture: frames one after the other, of which some octets are held.
-ghost use mathlib.Core.Path.{_≡_};
 ghost use Prim.Native.Nat.{_≤_};
 ghost use lib.ListN.{length};
 ghost use Rattle.frame.specs.Capture as Spec;
@@ -17,21 +16,20 @@ pub enum Next {
 
 // What stands at the front of the octets that are held. They are the last of the capture, or all that there is room for, if `last`.
 pub fn next_frame(held: &[u8], last: bool) -> Next
-    ensures answer { λ r. ⌜ r ≡ Spec.nextFrame (now (held .entry)) last ⌝ }
+    ensures answer { λ r. ⌜ Spec.NextIs (now (held .entry)) last r ⌝ }
     ensures within { λ r. ⌜ Spec.frameOctets r ≤ length (now (held .entry)) ⌝ }
 {
-    if held.len() == 0 {
-        if last {
-            return Next::End;
+    match framing::framing_in(held) {
+        Framing::Token { lead, length } => Next::Frame(lead + length),
+        Framing::Incomplete => {
+            if !last {
+                return Next::More;
+            }
+            if held.len() == 0 {
+                return Next::End;
+            }
+            Next::Fault
         }
-        return Next::More;
+        Framing::Fault => Next::Fault,
     }
-    let framing = framing::framing_in(held);
-    let Framing::Token { lead, length } = framing else {
-        if last {
-            return Next::Fault;
-        }
-        return Next::More;
-    };
-    Next::Frame(lead + length)
 }

@@ -3,12 +3,22 @@ ghost use mathlib.Core.Path.{_≡_};
 ghost use Rattle.frame.specs.Framing as Spec;
 use crate::length;
 use crate::length::Contents;
+use tokens::answer::Refusal;
+use tokens::answer::Status;
 use tokens::checks;
 
-// The frame at the front of some octets: how many octets stand before its token, and how many the token has.
+// What stands at the front of some octets: a frame, with so many octets before its token and so many in it; the beginning of a frame, of
+// which more is needed; or neither, whatever follows.
 pub enum Framing {
     Token { lead: usize, length: usize },
+    Incomplete,
     Fault,
+}
+
+// The octets before the token of a region that is a frame, or a refusal.
+pub struct Lead {
+    pub status: Status,
+    pub octets: usize,
 }
 
 // The tag: [APPLICATION 0], constructed.
@@ -32,48 +42,90 @@ pub const MECHANISM: [u8; 11] = [
     0x02,
 ];
 
-// The frame at the front of some octets, whatever follows it.
+// Whether octets are those of the mechanism, as far as they go.
+fn is_mechanism(octets: &[u8]) -> bool
+    ensures { λ r. ⌜ r ≡ Spec.agree (now (octets .entry)) Spec.mechanism ⌝ }
+{
+    let mechanism = MECHANISM;
+    if octets.len() < MECHANISM_LENGTH {
+        let n = octets.len();
+        return checks::same(octets, &mechanism[..n]);
+    }
+    checks::same(&octets[..MECHANISM_LENGTH], &mechanism)
+}
+
+// What stands at the front of some octets, whatever follows it.
 pub fn framing_in(octets: &[u8]) -> Framing
-    ensures { λ r. ⌜ r ≡ Spec.framingIn (now (octets .entry)) ⌝ }
+    ensures { λ r. ⌜ Spec.FrontIs (now (octets .entry)) r ⌝ }
 {
     if octets.len() == 0 {
-        return Framing::Fault;
+        return Framing::Incomplete;
     }
     if octets[0] != TAG {
         return Framing::Fault;
     }
-    let contents = length::contents_in(&octets[1..]);
-    let Contents::Counted { width, value } = contents else {
-        return Framing::Fault;
-    };
-    if value < MECHANISM_LENGTH {
-        return Framing::Fault;
+    match length::contents_in(MECHANISM_LENGTH, &octets[1..]) {
+        Contents::Counted { width, value } => {
+            let from = 1 + width;
+            if is_mechanism(&octets[from..]) {
+                return Framing::Token {
+                    lead: from + MECHANISM_LENGTH,
+                    length: value - MECHANISM_LENGTH,
+                };
+            }
+            Framing::Fault
+        }
+        Contents::Cut { width } => {
+            if is_mechanism(&octets[1 + width..]) {
+                return Framing::Incomplete;
+            }
+            Framing::Fault
+        }
+        Contents::Incomplete => Framing::Incomplete,
+        Contents::Wrong => Framing::Fault,
     }
-    let from = 1 + width;
-    let to = from + MECHANISM_LENGTH;
-    let mechanism = MECHANISM;
-    if checks::same(&octets[from..to], &mechanism) {
-        return Framing::Token {
-            lead: to,
-            length: value - MECHANISM_LENGTH,
-        };
-    }
-    Framing::Fault
 }
 
-// The frame that some octets are: it ends where they end.
-pub fn framing_of(octets: &[u8]) -> Framing
-    ensures { λ r. ⌜ r ≡ Spec.framing (now (octets .entry)) ⌝ }
+// The refusal of octets that are not one whole frame.
+fn no_frame() -> Lead
+    ensures { λ r. ⌜ r ≡ Spec.noFrame ⌝ }
 {
-    let framing = framing_in(octets);
-    let Framing::Token { lead, length } = framing else {
-        return Framing::Fault;
+    Lead {
+        status: Status::Refused(Refusal::Frame),
+        octets: 0,
+    }
+}
+
+// How many octets stand before the token, if some octets are one whole frame.
+fn lead_of(octets: &[u8]) -> Lead
+    ensures { λ r. ⌜ r ≡ Spec.leadAnswer (Spec.leadOf (now (octets .entry))) ⌝ }
+{
+    match framing_in(octets) {
+        Framing::Token { lead, length } => {
+            if lead + length == octets.len() {
+                return Lead {
+                    status: Status::Done,
+                    octets: lead,
+                };
+            }
+            no_frame()
+        }
+        Framing::Incomplete => no_frame(),
+        Framing::Fault => no_frame(),
+    }
+}
+
+// How many octets stand before the token in the region of `len` octets from `start`, if it is one whole frame.
+pub fn lead_in(buf: &[u8], start: usize, len: usize) -> Lead
+    ensures { λ r. ⌜ r ≡ Spec.leadAnswer (Spec.leadIn (now (buf .entry)) start len) ⌝ }
+{
+    let placed = checks::region(start, len, buf.len());
+    let Status::Done = placed else {
+        return Lead {
+            status: placed,
+            octets: 0,
+        };
     };
-    if octets.len() < lead {
-        return Framing::Fault;
-    }
-    if octets.len() - lead != length {
-        return Framing::Fault;
-    }
-    framing
+    let end = start + len;
+    lead_of(&buf[start..end])
 }

@@ -4,9 +4,12 @@ ghost use Prim.Native.Nat.{_≤_, _<_};
 ghost use lib.ListN.{length, take};
 ghost use Rattle.frame.specs.Length as Spec;
 
-// A length at the front of some octets, and whether all that it counts follows it: how many octets it takes, and how many it counts.
+// A length at the front of some octets: how many octets it has, and how many it counts, if all that it counts follows it; or how many it
+// has, if what follows is cut off; or that the octets end inside it; or that they begin no length.
 pub enum Contents {
     Counted { width: usize, value: usize },
+    Cut { width: usize },
+    Incomplete,
     Wrong,
 }
 
@@ -73,41 +76,62 @@ fn value_within(most: usize, octets: &[u8]) -> Value
     Value::Number(value)
 }
 
-// The length at the front of some octets, if it has the shortest form and all that it counts follows it. A long form is the shortest if
-// its number is 128 or more and has no zero before it.
-pub fn contents_in(octets: &[u8]) -> Contents
-    ensures { λ r. ⌜ r ≡ Spec.contentsIn (now (octets .entry)) ⌝ }
+// A length of one octet, which is the number itself, with `rest` octets after it.
+fn short_form(least: usize, value: usize, rest: usize) -> Contents
+    ensures { λ r. ⌜ r ≡ Spec.shortForm least value rest ⌝ }
+{
+    if value < least {
+        return Contents::Wrong;
+    }
+    if rest < value {
+        return Contents::Cut { width: 1 };
+    }
+    Contents::Counted {
+        width: 1,
+        value: value,
+    }
+}
+
+// The length at the front of some octets, if it has the shortest form and counts at least `least` octets. A long form is the shortest
+// if its first digit is not zero and its number is 128 or more.
+pub fn contents_in(least: usize, octets: &[u8]) -> Contents
+    requires { ⌜ least ≤ 128 ⌝ }
+    ensures { λ r. ⌜ Spec.LengthIs least (now (octets .entry)) r ⌝ }
 {
     if octets.len() == 0 {
-        return Contents::Wrong;
+        return Contents::Incomplete;
     }
     let rest = octets.len() - 1;
     let first = number(octets[0]);
     if first < 128 {
-        if rest < first {
-            return Contents::Wrong;
-        }
-        return Contents::Counted {
-            width: 1,
-            value: first,
-        };
+        return short_form(least, first, rest);
     }
     let count = first - 128;
+    if count == 0 {
+        return Contents::Wrong;
+    }
+    if count == 127 {
+        return Contents::Wrong;
+    }
+    if rest == 0 {
+        return Contents::Incomplete;
+    }
+    let digit = number(octets[1]);
+    if digit == 0 {
+        return Contents::Wrong;
+    }
+    if count == 1 {
+        if digit < 128 {
+            return Contents::Wrong;
+        }
+    }
     if rest < count {
-        return Contents::Wrong;
+        return Contents::Incomplete;
     }
-    let said = value_within(rest - count, &octets[1..1 + count]);
+    let width = 1 + count;
+    let said = value_within(rest - count, &octets[1..width]);
     let Value::Number(value) = said else {
-        return Contents::Wrong;
+        return Contents::Cut { width };
     };
-    if value < 128 {
-        return Contents::Wrong;
-    }
-    if octets[1] == 0 {
-        return Contents::Wrong;
-    }
-    Contents::Counted {
-        width: 1 + count,
-        value: value,
-    }
+    Contents::Counted { width, value }
 }

@@ -1,17 +1,14 @@
 // The framed MIC token: RFC 4757, section 7.2, in the frame of RFC 2743, section 3.1.
 ghost use mathlib.Core.Path.{_≡_};
 ghost use lib.ListN.{length};
-ghost use Rattle.tokens.specs.Answer.{extentAnswer};
+ghost use Rattle.tokens.specs.Answer.{extentAnswer, sequenceAnswer, sequenceRefusal, sequenceNumber};
 ghost use Rattle.tokens.specs.Limits.{bufferAfter};
 ghost use Rattle.tokens.specs.Message.{allOctets};
-ghost use Rattle.frame.specs.Answer.{framedSequenceAnswer, framedSequenceRefusal, framedSequenceNumber};
 ghost use Rattle.frame.specs.Mic as Spec;
-use crate::answer::FramedSequence;
 use crate::framing;
-use crate::framing::Framing;
 use crate::lead;
+use crate::refused;
 use tokens::answer::Extent;
-use tokens::answer::Refusal;
 use tokens::answer::Sequence;
 use tokens::answer::Status;
 use tokens::checks;
@@ -32,13 +29,13 @@ pub fn framed_mic_write(
 {
     let sized = checks::length(0, limits::MOST_MESSAGE, data.len());
     let Status::Done = sized else {
-        return checks::stopped_extent(sized);
+        return Extent::Refused(refused::by(sized));
     };
     let before = lead::width(mic::LENGTH);
     let total = before + mic::LENGTH;
     let placed = checks::region(start, total, buf.len());
     let Status::Done = placed else {
-        return checks::stopped_extent(placed);
+        return Extent::Refused(refused::by(placed));
     };
     mic::mic_write(context, sequence, data, buf, start + before);
     lead::write(buf, start, mic::LENGTH);
@@ -53,18 +50,15 @@ pub fn framed_mic_read(
     buf: &[u8],
     start: usize,
     len: usize,
-) -> FramedSequence
-    ensures answer { λ r. ⌜ r ≡ framedSequenceAnswer (Spec.framedMicReading context (now («data» .entry)) (now (buf .entry)) start len) ⌝ }
-    ensures exact { λ r. ⌜ Spec.ReadsExactly context (now («data» .entry)) (now (buf .entry)) start len (framedSequenceRefusal r) (framedSequenceNumber r) ⌝ }
+) -> Sequence
+    ensures answer { λ r. ⌜ r ≡ sequenceAnswer (Spec.framedMicReading context (now («data» .entry)) (now (buf .entry)) start len) ⌝ }
+    ensures exact { λ r. ⌜ Spec.ReadsExactly context (now («data» .entry)) (now (buf .entry)) start len (sequenceRefusal r) (sequenceNumber r) ⌝ }
 {
-    let placed = checks::region(start, len, buf.len());
-    let Status::Done = placed else {
-        return FramedSequence::Token(Sequence::Refused(Refusal::Region));
+    let found = framing::lead_in(buf, start, len);
+    let status = found.status;
+    let Status::Done = status else {
+        return Sequence::Refused(refused::by(status));
     };
-    let end = start + len;
-    let framing = framing::framing_of(&buf[start..end]);
-    let Framing::Token { lead, length } = framing else {
-        return FramedSequence::Fault;
-    };
-    FramedSequence::Token(mic::mic_read(context, data, buf, start + lead, length))
+    let lead = found.octets;
+    mic::mic_read(context, data, buf, start + lead, len - lead)
 }

@@ -1,17 +1,15 @@
 // The framed Wrap token: RFC 4757, section 7.3, in the frame of RFC 2743, section 3.1.
 ghost use mathlib.Core.Path.{_≡_};
 ghost use lib.ListN.{length};
-ghost use Rattle.tokens.specs.Answer.{extentAnswer};
+ghost use Rattle.tokens.specs.Answer.{extentAnswer, unwrappedNumber, unwrappedSequence, unwrappedSealed, unwrappedLength};
 ghost use Rattle.tokens.specs.Limits.{bufferAfter};
 ghost use Rattle.tokens.specs.Message.{allOctets};
-ghost use Rattle.frame.specs.Answer.{framedUnwrappedAnswer, openedBuffer, framedUnwrappedNumber, framedUnwrappedSequence, framedUnwrappedSealed, framedUnwrappedLength};
+ghost use Rattle.tokens.specs.Wrap.{unwrappedAnswer};
 ghost use Rattle.frame.specs.Wrap as Spec;
-use crate::answer::FramedUnwrapped;
 use crate::framing;
-use crate::framing::Framing;
 use crate::lead;
+use crate::refused;
 use tokens::answer::Extent;
-use tokens::answer::Refusal;
 use tokens::answer::Status;
 use tokens::answer::Unwrapped;
 use tokens::checks;
@@ -25,7 +23,7 @@ pub fn framed_wrap_lead(len: usize) -> Extent
 {
     let sized = checks::length(0, limits::MOST_MESSAGE, len);
     let Status::Done = sized else {
-        return checks::stopped_extent(sized);
+        return Extent::Refused(refused::by(sized));
     };
     Extent::Octets(lead::width(wrap::OVERHEAD + len))
 }
@@ -46,14 +44,14 @@ pub fn framed_wrap_write(
 {
     let sized = checks::length(0, limits::MOST_MESSAGE, len);
     let Status::Done = sized else {
-        return checks::stopped_extent(sized);
+        return Extent::Refused(refused::by(sized));
     };
     let token = wrap::OVERHEAD + len;
     let before = lead::width(token);
     let total = before + token;
     let placed = checks::region(start, total, buf.len());
     let Status::Done = placed else {
-        return checks::stopped_extent(placed);
+        return Extent::Refused(refused::by(placed));
     };
     wrap::wrap_write(
         context,
@@ -71,24 +69,16 @@ pub fn framed_wrap_write(
 // Opens the framed token in the region of `len` octets from `start`, and answers its sequence number, whether it is sealed, and the
 // length of its message. It is done exactly when the rules write some parts, frame and token, as the region's octets (`exact`); a region
 // that is refused is left as it came.
-pub fn framed_wrap_open(
-    context: Context,
-    buf: &mut [u8],
-    start: usize,
-    len: usize,
-) -> FramedUnwrapped
-    ensures answer { λ r. ⌜ r ≡ framedUnwrappedAnswer (Spec.framedWrapOpening context (now (buf .entry)) start len) ⌝ }
-    ensures buffer { λ _. ⌜ now (buf .exit) ≡ openedBuffer start (now (buf .entry)) (Spec.framedWrapOpening context (now (buf .entry)) start len) ⌝ }
-    ensures exact { λ r. ⌜ Spec.OpensExactly context (now (buf .entry)) start len (framedUnwrappedNumber r) (framedUnwrappedSequence r) (framedUnwrappedSealed r) (framedUnwrappedLength r) (now (buf .exit)) ⌝ }
+pub fn framed_wrap_open(context: Context, buf: &mut [u8], start: usize, len: usize) -> Unwrapped
+    ensures answer { λ r. ⌜ r ≡ unwrappedAnswer (Spec.framedWrapOpening context (now (buf .entry)) start len) ⌝ }
+    ensures buffer { λ _. ⌜ now (buf .exit) ≡ Spec.openedBuffer context (now (buf .entry)) start len ⌝ }
+    ensures exact { λ r. ⌜ Spec.OpensExactly context (now (buf .entry)) start len (unwrappedNumber r) (unwrappedSequence r) (unwrappedSealed r) (unwrappedLength r) (now (buf .exit)) ⌝ }
 {
-    let placed = checks::region(start, len, buf.len());
-    let Status::Done = placed else {
-        return FramedUnwrapped::Token(Unwrapped::Refused(Refusal::Region));
+    let found = framing::lead_in(buf, start, len);
+    let status = found.status;
+    let Status::Done = status else {
+        return Unwrapped::Refused(refused::by(status));
     };
-    let end = start + len;
-    let framing = framing::framing_of(&buf[start..end]);
-    let Framing::Token { lead, length } = framing else {
-        return FramedUnwrapped::Fault;
-    };
-    FramedUnwrapped::Token(wrap::wrap_open(context, buf, start + lead, length))
+    let lead = found.octets;
+    wrap::wrap_open(context, buf, start + lead, len - lead)
 }

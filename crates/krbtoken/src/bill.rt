@@ -1,21 +1,25 @@
 // The verb that bills a capture: framed Wrap tokens one after the other, read through a buffer of a few frames.
+ghost use mathlib.Core.Path.{_≡_};
 ghost use Prim.Native.Nat.{_≤_};
 ghost use lib.ListN.{length};
+ghost use Rattle.billing.specs.Receive.{presentedBy, received};
+ghost use Rattle.frame.specs.Wrap.{framedWrapOpening};
+ghost use Rattle.tokens.specs.Wrap.{unwrappedAnswer};
 use crate::arguments;
 use crate::exit::Exit;
 use crate::input;
 use crate::input::Ending;
 use crate::line::Line;
 use crate::output;
+use billing::receive;
+use billing::receive::TokenStatus;
 use billing::status::Status;
 use billing::window::Window;
-use frame::answer;
-use frame::answer::FramedUnwrapped;
 use frame::capture;
 use frame::capture::Next;
-use frame::wrap;
 use libc::STDIN_FILENO;
 use text::decimal::Number;
+use tokens::answer::Refusal;
 use tokens::answer::Unwrapped;
 use tokens::context::Context;
 
@@ -42,7 +46,10 @@ struct Refilled {
 }
 
 // The words of a status, after the line so far.
-fn status_words(line: Line, status: Status) -> Line {
+fn status_words(line: Line, given: TokenStatus) -> Line {
+    let TokenStatus::Of(status) = given else {
+        return line;
+    };
     match status {
         Status::InOrder => line.text(b" in order"),
         Status::Gap => line.text(b" gap"),
@@ -72,7 +79,13 @@ fn totals(bill: Billing) -> Exit {
 }
 
 // The line of a token that opened.
-fn record_line(place: u64, status: Status, sequence: u32, sealed: bool, length: usize) -> Line {
+fn record_line(
+    place: u64,
+    status: TokenStatus,
+    sequence: u32,
+    sealed: bool,
+    length: usize,
+) -> Line {
     let numbered = place_words(place)
         .text(b"sequence ")
         .number(sequence as u64);
@@ -85,56 +98,54 @@ fn record_line(place: u64, status: Status, sequence: u32, sealed: bool, length: 
     whole.text(b" clear")
 }
 
-// Bills the number of a token that opened.
-fn billed(bill: Billing, sequence: u32, sealed: bool, length: usize) -> Step {
-    let receipt = bill.window.bill(sequence);
-    let status = receipt.status;
-    let window = receipt.window;
-    Step {
-        bill: Billing {
-            window: window,
-            place: bill.place,
-            refused: bill.refused,
-        },
-        exit: output::line(record_line(bill.place, status, sequence, sealed, length)),
-    }
-}
-
-// The billing with one more refused.
-fn one_refused(bill: Billing) -> Billing {
-    let window = bill.window;
+// The billing with one more refused. The window is as it was.
+fn one_refused(bill: Billing) -> Billing
+    ensures { λ r. ⌜ r .window ≡ bill .window ⌝ }
+{
+    let as_before = bill.window;
     Billing {
-        window: window,
+        window: as_before,
         place: bill.place,
         refused: std::num::wrapping_add_u64(bill.refused, 1),
     }
 }
 
-// Counts a token that was refused.
-fn refused(bill: Billing, number: u32) -> Step {
-    Step {
-        bill: one_refused(bill),
-        exit: output::line(output::refusal(place_words(bill.place), number)),
-    }
-}
-
-// Opens the framed token of n octets from `at`, and bills or counts it.
-fn bill_token(bill: Billing, context: Context, buf: &mut [u8], at: usize, n: usize) -> Step {
-    let opened = wrap::framed_wrap_open(context, buf, at, n);
-    if let FramedUnwrapped::Token(token) = opened {
-        if let Unwrapped::Message {
+// Receives the framed token of n octets from `at`, and writes its line. The window is what `receive_framed_wrap` makes of it: the number
+// of a token that opened is billed, and a refused token leaves the window as it was.
+fn bill_token(bill: Billing, context: Context, buf: &mut [u8], at: usize, n: usize) -> Step
+    ensures { λ r. ⌜ r .bill .window ≡ received (bill .window) (presentedBy (unwrappedAnswer (framedWrapOpening context (now (buf .entry)) at n))) .window ⌝ }
+{
+    let before = bill.window;
+    let answer = receive::receive_framed_wrap(before, context, buf, at, n);
+    let received = answer.received;
+    let status = received.status;
+    let window = received.window;
+    let billed = Billing {
+        window: window,
+        place: bill.place,
+        refused: bill.refused,
+    };
+    let token = answer.token;
+    match token {
+        Unwrapped::Message {
             sequence,
             sealed,
             length,
-        } = token {
-            return billed(bill, sequence, sealed, length);
-        }
+        } => Step {
+            bill: billed,
+            exit: output::line(record_line(bill.place, status, sequence, sealed, length)),
+        },
+        Unwrapped::Refused(refusal) => Step {
+            bill: one_refused(billed),
+            exit: output::line(output::refusal(place_words(bill.place), refusal)),
+        },
     }
-    refused(bill, opened.number())
 }
 
 // The billing n octets further on.
-fn after(bill: Billing, n: usize) -> Billing {
+fn after(bill: Billing, n: usize) -> Billing
+    ensures { λ r. ⌜ r .window ≡ bill .window ⌝ }
+{
     let window = bill.window;
     Billing {
         window: window,
@@ -145,7 +156,7 @@ fn after(bill: Billing, n: usize) -> Billing {
 
 // Ends the billing at a fault of a frame.
 fn fault(bill: Billing) -> Exit {
-    let line = output::refusal(place_words(bill.place), answer::FAULT);
+    let line = output::refusal(place_words(bill.place), Refusal::Frame);
     let Exit::Done = output::line(line.text(b"; what follows can't be told apart")) else {
         return Exit::WrongUse;
     };
@@ -159,6 +170,9 @@ fn fault(bill: Billing) -> Exit {
 fn to_front(buf: &mut [u8], at: usize, end: usize)
     requires { ⌜ (at ≤ end) × (end ≤ length (now buf)) ⌝ }
 {
+    if at == 0 {
+        return;
+    }
     let mut i: usize = at;
     while i < end {
         buf[i - at] = buf[i];
@@ -166,14 +180,15 @@ fn to_front(buf: &mut [u8], at: usize, end: usize)
     }
 }
 
-// Moves the octets that are held, from `at` to `end`, to the front of the buffer, and reads as many after them as there are, or as fit.
+// Moves the octets that are held, from `at` to `end`, to the front of the buffer, and reads what there is after them, as far as it fits. It
+// does not wait for more than the next octets, so that a token is billed, and a fault is told, while a pipe is still open.
 fn refill(buf: &mut [u8], at: usize, end: usize) -> Refilled
     requires { ⌜ (at ≤ end) × (end ≤ length (now buf)) ⌝ }
     ensures { λ r. ⌜ r .end ≤ length (now (buf .exit)) ⌝ }
 {
     to_front(buf, at, end);
     let kept = end - at;
-    let read = input::read(STDIN_FILENO, &mut buf[kept..]);
+    let read = input::read_some(STDIN_FILENO, &mut buf[kept..]);
     let ending = read.ending;
     Refilled {
         end: kept + read.count,

@@ -7,11 +7,12 @@ use libc::STDIN_FILENO;
 // Octets of a buffer for a token, a message or data: one more than the most that is read.
 pub const BUFFER: usize = 65537;
 
-// How reading ended: with the input, with the buffer, or with a fault.
+// How reading ended: with the input, with the buffer, with a fault, or with some octets, after which more may follow.
 pub enum Ending {
     Whole,
     Full,
     Failed,
+    Some,
 }
 
 // How many octets were read, and how that ended.
@@ -45,6 +46,24 @@ pub fn read(fd: i32, buf: &mut [u8]) -> Input
     Input {
         count: n,
         ending: Ending::Full,
+    }
+}
+
+// Reads what there is, of which there may be more later.
+pub fn read_some(fd: i32, buf: &mut [u8]) -> Input
+    ensures { λ r. ⌜ Counts (r .count) (now (buf .exit)) ⌝ }
+{
+    let got = libc::read(fd, buf);
+    let n = io::count(got, buf);
+    if n == 0 {
+        return Input {
+            count: 0,
+            ending: ending_of(got),
+        };
+    }
+    Input {
+        count: n,
+        ending: Ending::Some,
     }
 }
 

@@ -22,7 +22,7 @@ fn digest(answer: Digest) -> Exit {
     let octets = answer.octets;
     match status {
         Status::Done => output::digits(&octets),
-        Status::Refused(refusal) => output::refused(refusal.number()),
+        Status::Refused(refusal) => output::refused(refusal),
     }
 }
 

@@ -32,7 +32,7 @@ fn encrypt_input(
     let n = read.count;
     match message::encrypt(key, strength, usage, confounder, buf, 0, n) {
         Extent::Octets(total) => output::region(buf, 0, total),
-        Extent::Refused(refusal) => output::refused(refusal.number()),
+        Extent::Refused(refusal) => output::refused(refusal),
     }
 }
 
@@ -77,7 +77,7 @@ fn decrypt_input(key: [u8; 16], strength: Strength, usage: u32) -> Exit {
     let n = read.count;
     match message::decrypt(key, strength, usage, &mut buf, 0, n) {
         Extent::Octets(length) => print_data(&buf, length),
-        Extent::Refused(refusal) => output::refused(refusal.number()),
+        Extent::Refused(refusal) => output::refused(refusal),
     }
 }
 

@@ -7,7 +7,6 @@ use crate::input;
 use crate::input::Ending;
 use crate::line::Line;
 use crate::output;
-use frame::answer::FramedSequence;
 use frame::mic as framed_mic;
 use text::decimal::Number;
 use tokens::answer::Extent;
@@ -37,7 +36,7 @@ fn mic_input(context: Context, sequence: u32, framed: bool) -> Exit {
     let mut token = [0u8; TOKEN];
     match write(context, sequence, framed, &data[..n], &mut token) {
         Extent::Octets(total) => output::region(&token, 0, total),
-        Extent::Refused(refusal) => output::refused(refusal.number()),
+        Extent::Refused(refusal) => output::refused(refusal),
     }
 }
 
@@ -59,22 +58,22 @@ pub fn mic(at: usize) -> Exit
 }
 
 // Reads a token.
-fn read(context: Context, framed: bool, data: &[u8], token: &[u8]) -> FramedSequence {
+fn read(context: Context, framed: bool, data: &[u8], token: &[u8]) -> Sequence {
     let n = token.len();
     if framed {
         return framed_mic::framed_mic_read(context, data, token, 0, n);
     }
-    FramedSequence::Token(mic::mic_read(context, data, token, 0, n))
+    mic::mic_read(context, data, token, 0, n)
 }
 
 // Writes the sequence number that was read, or the refusal.
-fn print(answer: FramedSequence) -> Exit {
-    if let FramedSequence::Token(token) = answer {
-        if let Sequence::Number(sequence) = token {
-            return output::line(Line::new().text(b"sequence ").number(sequence as u64));
+fn print(answer: Sequence) -> Exit {
+    match answer {
+        Sequence::Number(sequence) => {
+            output::line(Line::new().text(b"sequence ").number(sequence as u64))
         }
+        Sequence::Refused(refusal) => output::refused(refusal),
     }
-    output::refused(answer.number())
 }
 
 // Reads the token over standard input.

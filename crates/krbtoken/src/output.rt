@@ -34,33 +34,37 @@ pub fn line(line: Line) -> Exit {
     written(line.write(STDOUT_FILENO))
 }
 
-// What a refusal number means, after the line so far.
-pub fn meaning(line: Line, number: u32) -> Line {
-    match number {
-        1 => line.text(b"a length is outside the limits"),
-        2 => line.text(b"the region does not lie inside the buffer"),
-        3 => line.text(b"the usage is not 1 to 15"),
-        4 => line.text(b"the first eight octets are not a header of this kind of token"),
-        5 => line.text(
+// What a refusal means, after the line so far.
+fn meaning(line: Line, refusal: Refusal) -> Line {
+    match refusal {
+        Refusal::Length => line.text(b"a length is outside the limits"),
+        Refusal::Region => line.text(b"the region does not lie inside the buffer"),
+        Refusal::Usage => line.text(b"the usage is not 1 to 15"),
+        Refusal::Header => line.text(
+            b"the first eight octets are not a header of this kind of token",
+        ),
+        Refusal::Direction => line.text(
             b"the direction octets are not those of the expected sender; a wrong key or strength shows so too",
         ),
-        6 => line.text(b"the checksum differs"),
-        7 => line.text(b"the last octet of the opened token is not 01"),
-        _ => line.text(b"not one whole frame"),
+        Refusal::Checksum => line.text(b"the checksum differs"),
+        Refusal::Pad => line.text(b"the last octet of the opened token is not 01"),
+        Refusal::Frame => line.text(b"not one whole frame"),
     }
 }
 
 // A refusal in words, after the line so far.
-pub fn refusal(line: Line, number: u32) -> Line {
+pub fn refusal(line: Line, refusal: Refusal) -> Line {
     meaning(
-        line.text(b"refused ").number(number as u64).text(b": "),
-        number,
+        line.text(b"refused ")
+            .number(refusal.number() as u64)
+            .text(b": "),
+        refusal,
     )
 }
 
 // Writes the line of a refusal.
-pub fn refused(number: u32) -> Exit {
-    let Exit::Done = self::line(refusal(Line::new(), number)) else {
+pub fn refused(refusal: Refusal) -> Exit {
+    let Exit::Done = self::line(self::refusal(Line::new(), refusal)) else {
         return Exit::WrongUse;
     };
     Exit::Refused
@@ -69,7 +73,7 @@ pub fn refused(number: u32) -> Exit {
 // Writes the octets of a region as they are.
 pub fn region(buf: &[u8], start: usize, n: usize) -> Exit {
     let Status::Done = checks::region(start, n, buf.len()) else {
-        return refused(Refusal::Region.number());
+        return refused(Refusal::Region);
     };
     let end = start + n;
     written(io::write_all(STDOUT_FILENO, &buf[start..end]))
@@ -96,7 +100,7 @@ pub fn named_digits(name: &[u8], buf: &[u8], start: usize, n: usize) -> Exit {
         return line(Line::new().text(name));
     }
     let Status::Done = checks::region(start, n, buf.len()) else {
-        return refused(Refusal::Region.number());
+        return refused(Refusal::Region);
     };
     let end = start + n;
     if io::write_all(STDOUT_FILENO, name) {

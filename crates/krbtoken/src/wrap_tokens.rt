@@ -7,7 +7,6 @@ use crate::exit::Exit;
 use crate::input;
 use crate::line::Line;
 use crate::output;
-use frame::answer::FramedUnwrapped;
 use frame::wrap as framed_wrap;
 use text::decimal::Number;
 use text::words::SealingWord;
@@ -86,7 +85,7 @@ fn wrap_input(context: Context, parts: Parts, framed: bool, buf: &mut [u8]) -> E
     let start = token_start(framed, n);
     match write(context, parts, framed, buf, start, n) {
         Extent::Octets(total) => output::region(buf, start, total),
-        Extent::Refused(refusal) => output::refused(refusal.number()),
+        Extent::Refused(refusal) => output::refused(refusal),
     }
 }
 
@@ -122,11 +121,11 @@ pub fn wrap(at: usize) -> Exit
 }
 
 // Opens the token of n octets at the front of a buffer.
-fn open_token(context: Context, framed: bool, buf: &mut [u8], n: usize) -> FramedUnwrapped {
+fn open_token(context: Context, framed: bool, buf: &mut [u8], n: usize) -> Unwrapped {
     if framed {
         return framed_wrap::framed_wrap_open(context, buf, 0, n);
     }
-    FramedUnwrapped::Token(wrap::wrap_open(context, buf, 0, n))
+    wrap::wrap_open(context, buf, 0, n)
 }
 
 // Where the message of so many octets stands in a token of n: before the last octet, the pad.
@@ -166,17 +165,14 @@ fn open_input(context: Context, framed: bool) -> Exit {
         return Exit::WrongUse;
     }
     let n = read.count;
-    let opened = open_token(context, framed, &mut buf, n);
-    if let FramedUnwrapped::Token(token) = opened {
-        if let Unwrapped::Message {
+    match open_token(context, framed, &mut buf, n) {
+        Unwrapped::Message {
             sequence,
             sealed,
             length,
-        } = token {
-            return print_record(&buf, n, sequence, sealed, length);
-        }
+        } => print_record(&buf, n, sequence, sealed, length),
+        Unwrapped::Refused(refusal) => output::refused(refusal),
     }
-    output::refused(opened.number())
 }
 
 pub fn open(at: usize) -> Exit

@@ -67,6 +67,11 @@ hmac-digest = HmacParts.finished-hmac
 pub hmac-append : (h : HmacState) (xs ys : List ℕ) → Hmac.absorb h (xs ++ ys) ≡ Hmac.absorb (Hmac.absorb h xs) ys
 hmac-append = HmacParts.hmac-absorb-append
 
+-- the code from the inner hash and the outer one
+pub hmac-inner-outer : (key text : List ℕ) {digest code : List ℕ} → digest ≡ Hash.finished (Hash.absorb (Hmac.afterKey 0x36 key) text)
+    → code ≡ Hash.finished (Hash.absorb (Hmac.afterKey 0x5c key) digest) → code ≡ hmac key text
+hmac-inner-outer = HmacParts.inner-outer
+
 -- ---- RC4
 
 -- applied twice from one state, the text is back

@@ -8,6 +8,7 @@ use lib.ListN.{length, replicate}
 use Rattle.primitives.specs.Hash as Hash
 use Rattle.primitives.specs.Hash.{md5}
 use Rattle.primitives.specs.declared.hash.Algorithm.the-variants.{Md5 as is-md5}
+use Rattle.primitives.specs.declared.hash.Hash.{Hash as HashState}
 use Rattle.primitives.specs.declared.hmac.Hmac.{Hmac}
 
 -- B: the octets of a block
@@ -32,13 +33,13 @@ hmac key text = md5 (xorPad 0x5c (keyBlock key) ++ md5 (xorPad 0x36 (keyBlock ke
 
 -- ---- A text in parts. Every value of the state is legal; one that no key leads to is taken as it stands.
 
+-- the state of a hash after the key as a block, xor a pad
+unfoldable pub afterKey : ℕ → List ℕ → HashState
+afterKey pad key = Hash.absorb (Hash.begun is-md5) (xorPad pad (keyBlock key))
+
 -- before the first octet of the text
 unfoldable pub begun : List ℕ → Hmac
-begun key =
-    record {
-      inner = Hash.absorb (Hash.begun is-md5) (xorPad 0x36 (keyBlock key));
-      outer = Hash.absorb (Hash.begun is-md5) (xorPad 0x5c (keyBlock key));
-    }
+begun key = record { inner = afterKey 0x36 key; outer = afterKey 0x5c key }
 
 -- a part of the text more
 unfoldable pub absorb : Hmac → List ℕ → Hmac

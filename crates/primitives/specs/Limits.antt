@@ -23,11 +23,6 @@ leastRc4Key = 1
 abbrev pub mostRc4Key : ℕ
 mostRc4Key = 256
 
--- a status as the number that a caller is told: 0 is done, 1 is a length outside the limits
-abbrev pub number : Status → ℕ
-number Done = 0
-number Length = 1
-
 -- a length is taken from least to most, and refused otherwise
 unfoldable pub lengthStatus : ℕ → ℕ → ℕ → Status
 lengthStatus least most n = cond (leb least n && leb n most) Done Length

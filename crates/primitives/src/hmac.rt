@@ -1,9 +1,7 @@
 // HMAC-MD5 of a text that comes in parts: RFC 2104, section 2.
 ghost use mathlib.Core.Path.{_≡_};
-ghost use mathlib.Core.List.{_++_};
 ghost use Prim.Native.Nat.{_≤_};
 ghost use lib.ListN.{length};
-ghost use Rattle.primitives.specs.Hash.{absorb, finished};
 ghost use Rattle.primitives.specs.Hmac as Spec;
 use crate::hash::Algorithm;
 use crate::hash::Hash;
@@ -52,14 +50,11 @@ fn xor_pad(pad: u8, block: [u8; 64]) -> [u8; 64]
     padded
 }
 
-// The digest after a last part, which costs nothing if it is empty.
-fn finish_with(state: Hash, last: &[u8]) -> [u8; 16]
-    ensures { λ r. ⌜ r ≡ finished (absorb state (now (last .entry))) ⌝ }
+// The hash after a key of sixteen octets as a block, xor a pad. Such a key needs no hashing.
+fn after_key(pad: u8, key: [u8; 16]) -> Hash
+    ensures { λ r. ⌜ r ≡ Spec.afterKey pad key ⌝ }
 {
-    if last.len() == 0 {
-        return state.finish();
-    }
-    state.update(last).finish()
+    Hash::of_block(Algorithm::Md5, xor_pad(pad, filled(&key)))
 }
 
 impl Hmac {
@@ -98,25 +93,17 @@ impl Hmac {
         outer.update(&digest).finish()
     }
 
-    // The code of a text in two parts under a key of sixteen octets, in one call. The key needs no hashing, and no state is kept of
-    // the outer hash while the inner one runs.
-    pub fn of_two(key: [u8; 16], first: &[u8], second: &[u8]) -> [u8; 16]
-        ensures { λ r. ⌜ r ≡ Spec.hmac key (now (first .entry) ++ now (second .entry)) ⌝ }
+    // The inner hash before the first octet of the text, under a key of sixteen octets.
+    pub fn begin_inner(key: [u8; 16]) -> Hash
+        ensures { λ r. ⌜ r ≡ Spec.afterKey 0x36 key ⌝ }
     {
-        let block = filled(&key);
-        let ipad = xor_pad(0x36, block);
-        let opad = xor_pad(0x5c, block);
-        let inner = Hash::of_block(Algorithm::Md5, ipad).update(first);
-        let digest = finish_with(inner, second);
-        Hash::of_block(Algorithm::Md5, opad)
-            .update(&digest)
-            .finish()
+        after_key(0x36, key)
     }
 
-    // The same of a text in one part.
-    pub fn of(key: [u8; 16], text: &[u8]) -> [u8; 16]
-        ensures { λ r. ⌜ r ≡ Spec.hmac key (now (text .entry)) ⌝ }
+    // The outer hash, which waits for the inner digest, under a key of sixteen octets.
+    pub fn begin_outer(key: [u8; 16]) -> Hash
+        ensures { λ r. ⌜ r ≡ Spec.afterKey 0x5c key ⌝ }
     {
-        Hmac::of_two(key, text, &text[..0])
+        after_key(0x5c, key)
     }
 }

@@ -6,9 +6,6 @@ use Prim.Native.Nat.{ℕ}
 use Rattle.billing.specs.Receive.{number, isBilled}
 use Rattle.billing.specs.declared.receive.Received.{Received}
 use Rattle.billing.specs.declared.window.Window.{Window}
-use Rattle.frame.specs.Answer.{framedSequenceRefusal, framedSequenceNumber, framedUnwrappedNumber, framedUnwrappedSequence, framedUnwrappedSealed, framedUnwrappedLength}
-use Rattle.frame.specs.declared.answer.FramedSequence.{FramedSequence}
-use Rattle.frame.specs.declared.answer.FramedUnwrapped.{FramedUnwrapped}
 use Rattle.tokens.specs.Answer.{statusNumber, extentNumber, extentOctets, sequenceRefusal, sequenceNumber, unwrappedNumber, unwrappedSequence, unwrappedSealed, unwrappedLength}
 use Rattle.tokens.specs.declared.answer.Digest.{Digest}
 use Rattle.tokens.specs.declared.answer.Extent.{Extent}
@@ -41,18 +38,6 @@ pub record UnwrappedOut (unwrapped : Unwrapped) (answer sequence sealed length :
   pub sequence-is : sequence ≡ unwrappedSequence unwrapped
   pub sealed-is : sealed ≡ flagNumber (unwrappedSealed unwrapped)
   pub length-is : length ≡ unwrappedLength unwrapped
-
--- the sequence number of a framed token
-pub record FramedSequenceOut (framed : FramedSequence) (answer out : ℕ) : Type 0 where
-  pub refusal : answer ≡ framedSequenceRefusal framed
-  pub number : out ≡ framedSequenceNumber framed
-
--- what a framed Wrap token holds
-pub record FramedUnwrappedOut (framed : FramedUnwrapped) (answer sequence sealed length : ℕ) : Type 0 where
-  pub refusal : answer ≡ framedUnwrappedNumber framed
-  pub sequence-is : sequence ≡ framedUnwrappedSequence framed
-  pub sealed-is : sealed ≡ flagNumber (framedUnwrappedSealed framed)
-  pub length-is : length ≡ framedUnwrappedLength framed
 
 -- a window as four numbers
 abbrev pub windowWords : Window → List ℕ

@@ -1,12 +1,12 @@
 // MD4, MD5, HMAC-MD5 and RC4 for C.
 ghost use mathlib.Core.Path.{_≡_};
-ghost use Rattle.primitives.specs.Limits.{number};
 ghost use Rattle.primitives.specs.Whole.{digested, authenticated};
 ghost use Rattle.primitives.specs.declared.hash.Algorithm.the-variants.{Md4 as is-md4, Md5 as is-md5};
-ghost use Rattle.rc4hmac.specs.Primitives.{DigestOut, TextOut};
+ghost use Rattle.rc4hmac.specs.Primitives.{number, DigestOut, TextOut};
 use primitives::limits::Status;
 use primitives::whole;
 use primitives::whole::Digest;
+use tokens::answer::Refusal;
 
 // The number of a status.
 fn number_of(status: Status) -> u32
@@ -14,7 +14,7 @@ fn number_of(status: Status) -> u32
 {
     match status {
         Status::Done => 0,
-        Status::Length => 1,
+        Status::Length => Refusal::Length.number(),
     }
 }
 

@@ -1,11 +1,9 @@
 // The answers of the calls as C sees them: the number of a refusal, and the values behind pointers, zeros with a refusal.
 ghost use mathlib.Core.Path.{_≡_};
 ghost use Rattle.tokens.specs.Answer.{statusNumber};
-ghost use Rattle.rc4hmac.specs.Answers.{flagNumber, windowWords, DigestOut, ExtentOut, SequenceOut, UnwrappedOut, FramedSequenceOut, FramedUnwrappedOut, ReceivedOut};
+ghost use Rattle.rc4hmac.specs.Answers.{flagNumber, windowWords, DigestOut, ExtentOut, SequenceOut, UnwrappedOut, ReceivedOut};
 use billing::receive::Received;
 use billing::window::Window;
-use frame::answer::FramedSequence;
-use frame::answer::FramedUnwrapped;
 use tokens::answer::Digest;
 use tokens::answer::Extent;
 use tokens::answer::Sequence;
@@ -99,45 +97,6 @@ pub fn unwrapped_out(
             *sealed = 0;
             *len = 0;
             refusal.number()
-        }
-    }
-}
-
-// The sequence number of a framed token goes out.
-pub fn framed_sequence_out(framed: FramedSequence, out: &mut u32) -> u32
-    ensures { λ r. ⌜ FramedSequenceOut framed r (now (out .exit)) ⌝ }
-{
-    match framed {
-        FramedSequence::Token(token) => {
-            sequence_out(token, out);
-            framed.number()
-        }
-        FramedSequence::Fault => {
-            *out = 0;
-            framed.number()
-        }
-    }
-}
-
-// What a framed Wrap token holds goes out.
-pub fn framed_unwrapped_out(
-    framed: FramedUnwrapped,
-    sequence: &mut u32,
-    sealed: &mut u32,
-    len: &mut usize,
-) -> u32
-    ensures { λ r. ⌜ FramedUnwrappedOut framed r (now (sequence .exit)) (now (sealed .exit)) (now (len .exit)) ⌝ }
-{
-    match framed {
-        FramedUnwrapped::Token(token) => {
-            unwrapped_out(token, sequence, sealed, len);
-            framed.number()
-        }
-        FramedUnwrapped::Fault => {
-            *sequence = 0;
-            *sealed = 0;
-            *len = 0;
-            framed.number()
         }
     }
 }

@@ -1,13 +1,13 @@
 // Framed MIC and Wrap tokens for C.
 ghost use mathlib.Core.Path.{_≡_};
 ghost use lib.ListN.{length};
-ghost use Rattle.tokens.specs.Answer.{extentAnswer};
+ghost use Rattle.tokens.specs.Answer.{extentAnswer, sequenceAnswer};
 ghost use Rattle.tokens.specs.Limits.{bufferAfter};
 ghost use Rattle.tokens.specs.Message.{allOctets};
-ghost use Rattle.frame.specs.Answer.{framedSequenceAnswer, framedUnwrappedAnswer, openedBuffer};
+ghost use Rattle.tokens.specs.Wrap.{unwrappedAnswer};
 ghost use Rattle.frame.specs.Mic.{framedMicWriting, framedMicReading, ReadsExactly};
-ghost use Rattle.frame.specs.Wrap.{wrapLead, framedWrapWriting, framedWrapOpening, OpensExactly};
-ghost use Rattle.rc4hmac.specs.Answers.{ExtentOut, FramedSequenceOut, FramedUnwrappedOut};
+ghost use Rattle.frame.specs.Wrap.{wrapLead, framedWrapWriting, framedWrapOpening, openedBuffer, OpensExactly};
+ghost use Rattle.rc4hmac.specs.Answers.{ExtentOut, SequenceOut, UnwrappedOut};
 ghost use Rattle.rc4hmac.specs.Arguments.{isYes, contextOf};
 use crate::answers;
 use crate::arguments;
@@ -46,11 +46,11 @@ pub extern "C" fn rc4hmac_framed_mic_read(
     len: usize,
     sequence: &mut u32,
 ) -> u32
-    ensures answer { λ r. ⌜ FramedSequenceOut (framedSequenceAnswer (framedMicReading (contextOf (now (key .entry)) export acceptor) (now («data» .entry)) (now (buf .entry)) start len)) r (now (sequence .exit)) ⌝ }
+    ensures answer { λ r. ⌜ SequenceOut (sequenceAnswer (framedMicReading (contextOf (now (key .entry)) export acceptor) (now («data» .entry)) (now (buf .entry)) start len)) r (now (sequence .exit)) ⌝ }
     ensures exact { λ r. ⌜ ReadsExactly (contextOf (now (key .entry)) export acceptor) (now («data» .entry)) (now (buf .entry)) start len r (now (sequence .exit)) ⌝ }
 {
     let context = arguments::context_of(key, export, acceptor);
-    answers::framed_sequence_out(
+    answers::sequence_out(
         mic::framed_mic_read(context, data, buf, start, len),
         sequence,
     )
@@ -100,12 +100,12 @@ pub extern "C" fn rc4hmac_framed_wrap_open(
     sealed: &mut u32,
     found: &mut usize,
 ) -> u32
-    ensures answer { λ r. ⌜ FramedUnwrappedOut (framedUnwrappedAnswer (framedWrapOpening (contextOf (now (key .entry)) export acceptor) (now (buf .entry)) start len)) r (now (sequence .exit)) (now (sealed .exit)) (now (found .exit)) ⌝ }
-    ensures buffer { λ _. ⌜ now (buf .exit) ≡ openedBuffer start (now (buf .entry)) (framedWrapOpening (contextOf (now (key .entry)) export acceptor) (now (buf .entry)) start len) ⌝ }
+    ensures answer { λ r. ⌜ UnwrappedOut (unwrappedAnswer (framedWrapOpening (contextOf (now (key .entry)) export acceptor) (now (buf .entry)) start len)) r (now (sequence .exit)) (now (sealed .exit)) (now (found .exit)) ⌝ }
+    ensures buffer { λ _. ⌜ now (buf .exit) ≡ openedBuffer (contextOf (now (key .entry)) export acceptor) (now (buf .entry)) start len ⌝ }
     ensures exact { λ r. ⌜ OpensExactly (contextOf (now (key .entry)) export acceptor) (now (buf .entry)) start len r (now (sequence .exit)) (isYes (now (sealed .exit))) (now (found .exit)) (now (buf .exit)) ⌝ }
 {
     let context = arguments::context_of(key, export, acceptor);
-    answers::framed_unwrapped_out(
+    answers::unwrapped_out(
         wrap::framed_wrap_open(context, buf, start, len),
         sequence,
         sealed,

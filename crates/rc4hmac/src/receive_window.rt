@@ -1,8 +1,10 @@
-// The receive window for C: numbers handed in, and tokens received.
+// The receive window for C: numbers handed in, and tokens received, with their frame or without.
 ghost use mathlib.Core.Path.{_≡_};
 ghost use Prim.Native.Nat.{_+_};
 ghost use Rattle.billing.specs.Receive.{presentedBy, received};
 ghost use Rattle.billing.specs.Window.{newWindow, missing as missingIn};
+ghost use Rattle.frame.specs.Mic as FramedMic;
+ghost use Rattle.frame.specs.Wrap as FramedWrap;
 ghost use Rattle.tokens.specs.Answer.{sequenceAnswer};
 ghost use Rattle.tokens.specs.Limits.{bufferAfter};
 ghost use Rattle.tokens.specs.Mic.{micReading, ReadsExactly};
@@ -97,6 +99,62 @@ pub extern "C" fn rc4hmac_receive_mic(
     let words = *window;
     let came = arguments::window_of(words);
     let answer = receive::receive_mic(came, context, data, buf, start, len);
+    let billed = answer.received;
+    answers::received_out(billed, window, status);
+    let token = answer.token;
+    answers::sequence_out(token, sequence)
+}
+
+#[no_mangle]
+pub extern "C" fn rc4hmac_receive_framed_wrap(
+    window: &mut [u64; 4],
+    key: &[u8; 16],
+    export: u32,
+    acceptor: u32,
+    buf: &mut [u8],
+    start: usize,
+    len: usize,
+    sequence: &mut u32,
+    sealed: &mut u32,
+    found: &mut usize,
+    status: &mut u32,
+) -> u32
+    ensures answer { λ r. ⌜ UnwrappedOut (unwrappedAnswer (FramedWrap.framedWrapOpening (contextOf (now (key .entry)) export acceptor) (now (buf .entry)) start len)) r (now (sequence .exit)) (now (sealed .exit)) (now (found .exit)) ⌝ }
+    ensures buffer { λ _. ⌜ now (buf .exit) ≡ FramedWrap.openedBuffer (contextOf (now (key .entry)) export acceptor) (now (buf .entry)) start len ⌝ }
+    ensures exact { λ r. ⌜ FramedWrap.OpensExactly (contextOf (now (key .entry)) export acceptor) (now (buf .entry)) start len r (now (sequence .exit)) (isYes (now (sealed .exit))) (now (found .exit)) (now (buf .exit)) ⌝ }
+    ensures billing { λ _. ⌜ ReceivedOut (received (windowOf (now (window .entry))) (presentedBy (unwrappedAnswer (FramedWrap.framedWrapOpening (contextOf (now (key .entry)) export acceptor) (now (buf .entry)) start len)))) (now (window .entry)) (now (window .exit)) (now (status .exit)) ⌝ }
+{
+    let context = arguments::context_of(key, export, acceptor);
+    let words = *window;
+    let came = arguments::window_of(words);
+    let answer = receive::receive_framed_wrap(came, context, buf, start, len);
+    let billed = answer.received;
+    answers::received_out(billed, window, status);
+    let token = answer.token;
+    answers::unwrapped_out(token, sequence, sealed, found)
+}
+
+#[no_mangle]
+pub extern "C" fn rc4hmac_receive_framed_mic(
+    window: &mut [u64; 4],
+    key: &[u8; 16],
+    export: u32,
+    acceptor: u32,
+    data: &[u8],
+    buf: &[u8],
+    start: usize,
+    len: usize,
+    sequence: &mut u32,
+    status: &mut u32,
+) -> u32
+    ensures answer { λ r. ⌜ SequenceOut (sequenceAnswer (FramedMic.framedMicReading (contextOf (now (key .entry)) export acceptor) (now («data» .entry)) (now (buf .entry)) start len)) r (now (sequence .exit)) ⌝ }
+    ensures exact { λ r. ⌜ FramedMic.ReadsExactly (contextOf (now (key .entry)) export acceptor) (now («data» .entry)) (now (buf .entry)) start len r (now (sequence .exit)) ⌝ }
+    ensures billing { λ _. ⌜ ReceivedOut (received (windowOf (now (window .entry))) (sequenceAnswer (FramedMic.framedMicReading (contextOf (now (key .entry)) export acceptor) (now («data» .entry)) (now (buf .entry)) start len))) (now (window .entry)) (now (window .exit)) (now (status .exit)) ⌝ }
+{
+    let context = arguments::context_of(key, export, acceptor);
+    let words = *window;
+    let came = arguments::window_of(words);
+    let answer = receive::receive_framed_mic(came, context, data, buf, start, len);
     let billed = answer.received;
     answers::received_out(billed, window, status);
     let token = answer.token;

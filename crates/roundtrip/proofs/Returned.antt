@@ -7,14 +7,9 @@ use native.Mathlib.Omega.{arith}
 use lib.ListN.{length, length-take, length-drop}
 use Rattle.primitives.specs.Octets.{Octets}
 use Rattle.frame.proofs.Laws.{frame-length, framed-mic-made, framed-wrap-made}
-use Rattle.frame.specs.Answer.{framedSequenceRefusal, framedSequenceNumber, framedUnwrappedNumber, framedUnwrappedSequence, framedUnwrappedSealed, framedUnwrappedLength, openedBuffer}
 use Rattle.frame.specs.Framing.{leadLength}
 use Rattle.frame.specs.Mic as FramedMic
 use Rattle.frame.specs.Wrap as FramedWrap
-use Rattle.frame.specs.declared.answer.FramedSequence.{FramedSequence}
-use Rattle.frame.specs.declared.answer.FramedSequence.the-variants as framed-sequence
-use Rattle.frame.specs.declared.answer.FramedUnwrapped.{FramedUnwrapped}
-use Rattle.frame.specs.declared.answer.FramedUnwrapped.the-variants as framed-unwrapped
 use Rattle.tokens.specs.Answer.{Outcome, done, refused, extentNumber, extentOctets, extentAnswer, sequenceRefusal, sequenceNumber, unwrappedNumber, unwrappedSequence, unwrappedSealed, unwrappedLength}
 use Rattle.tokens.specs.Limits.{region, placed, bufferAfter}
 use Rattle.tokens.specs.Message as Message
@@ -33,7 +28,7 @@ use Rattle.tokens.specs.declared.answer.Unwrapped.the-variants as unwrapped
 use Rattle.tokens.specs.declared.context.Context.{Context}
 use Rattle.tokens.specs.declared.strength.Strength.{Strength}
 use Rattle.tokens.proofs.Laws.{never-zero, region-octets, placed-stands, placed-length, message-length as encrypt-length, mic-length, wrap-length, message-made, mic-made, wrap-made}
-use Rattle.roundtrip.specs.Returns.{MessageReturns, MicReturns, WrapReturns, FramedMicReturns, FramedWrapReturns}
+use Rattle.roundtrip.specs.Returns.{MessageReturns, MicReturns, WrapReturns, FramedWrapReturns}
 
 -- ---- What the writer left
 
@@ -130,39 +125,48 @@ module _ (key : List ℕ) (strength : Strength) (usage : ℕ) (confounder : List
           outward = λ p e. absurd (not-refused encrypted buf start w-is between-is told e);
         }
 
--- ---- MIC tokens
+-- ---- MIC tokens, framed or not
 
-module _ (context : Context) (n : ℕ) (text buf : List ℕ) (start : ℕ) where
-  abbrev signed : Outcome (List ℕ)
-  signed = Mic.micWriting context n text buf start
+module _ (written : Outcome (List ℕ)) (n : ℕ) (buf : List ℕ) (start : ℕ) {w : Extent} {between : List ℕ} (w-is : w ≡ extentAnswer length written)
+    (between-is : between ≡ bufferAfter allOctets start buf written) where
+  pub mic-outward : {q : Refusal} → w ≡ extent.Refused q → MicReturns written n start buf (sequence.Refused q) between
+  mic-outward {q} told =
+      record {
+        back = λ octets e. absurd (not-done written buf start w-is between-is told e);
+        buffer = λ octets e. absurd (not-done written buf start w-is between-is told e);
+        outward = λ p e. (ap sequence-too (same-refusal written buf start w-is between-is told e), unchanged written buf start w-is between-is e);
+      }
 
-  module _ {w : Extent} {between : List ℕ} (w-is : w ≡ extentAnswer length signed) (between-is : between ≡ bufferAfter allOctets start buf signed) where
-    pub mic-outward : {q : Refusal} → w ≡ extent.Refused q → MicReturns signed n start buf (sequence.Refused q) between
-    mic-outward {q} told =
-        record {
-          back = λ octets e. absurd (not-done signed buf start w-is between-is told e);
-          buffer = λ octets e. absurd (not-done signed buf start w-is between-is told e);
-          outward = λ p e. (ap sequence-too (same-refusal signed buf start w-is between-is told e), unchanged signed buf start w-is between-is e);
-        }
+  -- what was made is written by the rules, and what they write is read
+  pub mic-returned : (Written : List ℕ → Type 0) → ((octets : List ℕ) → written ≡ done octets → (start + length octets ≤ length buf) × Written octets) → {m : ℕ} {answer : Sequence}
+      → w ≡ extent.Octets m → (start + m ≤ length between → Written (region start m between) → (sequenceRefusal answer ≡ 0) × (sequenceNumber answer ≡ n)) → MicReturns written n start buf answer between
+  mic-returned Written made {m} {answer} told reads =
+      record {
+        back = λ octets e.
+            let w = made octets e in
+            let there = stands written buf start w-is between-is told e (w .0) in
+            let read = reads (there .0) (subst Written (sym (there .1)) (w .1)) in
+            number-is answer (read .0) (read .1);
+        buffer = λ octets e. left written buf start w-is between-is e;
+        outward = λ p e. absurd (not-refused written buf start w-is between-is told e);
+      }
 
-    mic-written : n < sequenceNumbers → {octets : List ℕ} → signed ≡ done octets → (start + length octets ≤ length buf) × Mic.Written context text n octets
-    mic-written fits {octets} e =
-        let made = mic-made context n text buf start e in
-        let whole : length octets ≡ 24 = ap length (made .2) ∙ mic-length context n text in
-        (omega (arith, made .1), record { number-fits = fits; text-most = made .0; as-written = sym (made .2) })
+module _ (context : Context) (n : ℕ) (text buf : List ℕ) (start : ℕ) (fits : n < sequenceNumbers) (octets : List ℕ) where
+  pub mic-written : Mic.micWriting context n text buf start ≡ done octets → (start + length octets ≤ length buf) × Mic.Written context text n octets
+  mic-written e =
+      let made = mic-made context n text buf start e in
+      let whole : length octets ≡ 24 = ap length (made .2) ∙ mic-length context n text in
+      (omega (arith, made .1), record { number-fits = fits; text-most = made .0; as-written = sym (made .2) })
 
-    pub mic-returned : n < sequenceNumbers → {m : ℕ} {answer : Sequence} → w ≡ extent.Octets m → Mic.ReadsExactly context text between start m (sequenceRefusal answer) (sequenceNumber answer)
-        → MicReturns signed n start buf answer between
-    mic-returned fits {m} {answer} told exact =
-        record {
-          back = λ octets e.
-              let w = mic-written fits e in
-              let there = stands signed buf start w-is between-is told e (w .0) in
-              let read = exact .always-then (there .0) n (subst (Mic.Written context text n) (sym (there .1)) (w .1)) in
-              number-is answer (read .0) (read .1);
-          buffer = λ octets e. left signed buf start w-is between-is e;
-          outward = λ p e. absurd (not-refused signed buf start w-is between-is told e);
-        }
+  pub framed-mic-written : FramedMic.framedMicWriting context n text buf start ≡ done octets → (start + length octets ≤ length buf) × FramedMic.Written context text n octets
+  framed-mic-written e =
+      let made = framed-mic-made context n text buf start e in
+      let token = Mic.micToken context n text in
+      let size = mic-length context n text in
+      let whole : length octets ≡ leadLength 24 + 24 = ap length (made .2) ∙ frame-length token ∙ ap (λ (k : ℕ). leadLength k + k) size in (
+        omega (arith, made .1),
+        record { token = token; holds = record { number-fits = fits; text-most = made .0; as-written = refl }; as-framed = sym (made .2) },
+      )
 
 -- ---- Wrap tokens
 
@@ -213,49 +217,6 @@ module _ (context : Context) (n : ℕ) (confounder : List ℕ) (sealed : Bool) (
           outward = λ p e. absurd (not-refused wrapped buf start w-is between-is told e);
         }
 
--- ---- Framed MIC tokens
-
--- an answer of done is the number
-framed-number-is : (answer : FramedSequence) {n : ℕ} → framedSequenceRefusal answer ≡ 0 → framedSequenceNumber answer ≡ n → answer ≡ framed-sequence.Token (sequence.Number n)
-framed-number-is (framed-sequence.Token s) z e = ap framed-sequence.Token (number-is s z e)
-framed-number-is framed-sequence.Fault z e = absurd (omega arith)
-
-module _ (context : Context) (n : ℕ) (text buf : List ℕ) (start : ℕ) where
-  abbrev framed-signed : Outcome (List ℕ)
-  framed-signed = FramedMic.framedMicWriting context n text buf start
-
-  module _ {w : Extent} {between : List ℕ} (w-is : w ≡ extentAnswer length framed-signed) (between-is : between ≡ bufferAfter allOctets start buf framed-signed) where
-    pub framed-mic-outward : {q : Refusal} → w ≡ extent.Refused q → FramedMicReturns framed-signed n start buf (framed-sequence.Token (sequence.Refused q)) between
-    framed-mic-outward {q} told =
-        record {
-          back = λ octets e. absurd (not-done framed-signed buf start w-is between-is told e);
-          buffer = λ octets e. absurd (not-done framed-signed buf start w-is between-is told e);
-          outward = λ p e. (ap (λ (x : Extent). framed-sequence.Token (sequence-too x)) (same-refusal framed-signed buf start w-is between-is told e), unchanged framed-signed buf start w-is between-is e);
-        }
-
-    framed-mic-written : n < sequenceNumbers → {octets : List ℕ} → framed-signed ≡ done octets → (start + length octets ≤ length buf) × FramedMic.Written context text n octets
-    framed-mic-written fits {octets} e =
-        let made = framed-mic-made context n text buf start e in
-        let token = Mic.micToken context n text in
-        let size = mic-length context n text in
-        let whole : length octets ≡ leadLength 24 + 24 = ap length (made .2) ∙ frame-length token ∙ ap (λ (k : ℕ). leadLength k + k) size in (
-          omega (arith, made .1),
-          record { token = token; holds = record { number-fits = fits; text-most = made .0; as-written = refl }; as-framed = sym (made .2) },
-        )
-
-    pub framed-mic-returned : n < sequenceNumbers → {m : ℕ} {answer : FramedSequence} → w ≡ extent.Octets m
-        → FramedMic.ReadsExactly context text between start m (framedSequenceRefusal answer) (framedSequenceNumber answer) → FramedMicReturns framed-signed n start buf answer between
-    framed-mic-returned fits {m} {answer} told exact =
-        record {
-          back = λ octets e.
-              let w = framed-mic-written fits e in
-              let there = stands framed-signed buf start w-is between-is told e (w .0) in
-              let read = exact .always-then (there .0) n (subst (FramedMic.Written context text n) (sym (there .1)) (w .1)) in
-              framed-number-is answer (read .0) (read .1);
-          buffer = λ octets e. left framed-signed buf start w-is between-is e;
-          outward = λ p e. absurd (not-refused framed-signed buf start w-is between-is told e);
-        }
-
 -- ---- Framed Wrap tokens
 
 module _ (context : Context) (n : ℕ) (confounder : List ℕ) (sealed : Bool) (buf : List ℕ) (start len : ℕ) where
@@ -266,12 +227,12 @@ module _ (context : Context) (n : ℕ) (confounder : List ℕ) (sealed : Bool) (
   framed-parts = Wrap.parts n sealed confounder (region (FramedWrap.framedMessageAt start len) len buf)
 
   module _ {w : Extent} {between : List ℕ} (w-is : w ≡ extentAnswer length framed-wrapped) (between-is : between ≡ bufferAfter allOctets start buf framed-wrapped) where
-    pub framed-wrap-outward : {q : Refusal} → w ≡ extent.Refused q → FramedWrapReturns context framed-wrapped framed-parts start buf (framed-unwrapped.Token (unwrapped.Refused q)) between
+    pub framed-wrap-outward : {q : Refusal} → w ≡ extent.Refused q → FramedWrapReturns context framed-wrapped framed-parts start buf (unwrapped.Refused q) between
     framed-wrap-outward {q} told =
         record {
           back = λ octets e. absurd (not-done framed-wrapped buf start w-is between-is told e);
           buffer = λ octets e. absurd (not-done framed-wrapped buf start w-is between-is told e);
-          outward = λ p e. (ap (λ (x : Extent). framed-unwrapped.Token (unwrapped-too x)) (same-refusal framed-wrapped buf start w-is between-is told e), unchanged framed-wrapped buf start w-is between-is e);
+          outward = λ p e. (ap unwrapped-too (same-refusal framed-wrapped buf start w-is between-is told e), unchanged framed-wrapped buf start w-is between-is e);
         }
 
     framed-wrap-written : n < sequenceNumbers → length confounder ≡ 8 → Octets confounder → Octets buf → {octets : List ℕ} → framed-wrapped ≡ done octets
@@ -297,9 +258,9 @@ module _ (context : Context) (n : ℕ) (confounder : List ℕ) (sealed : Bool) (
           },
         )
 
-    pub framed-wrap-returned : n < sequenceNumbers → length confounder ≡ 8 → Octets confounder → Octets buf → {m : ℕ} {answer : FramedUnwrapped} {after : List ℕ} → w ≡ extent.Octets m
-        → after ≡ openedBuffer start between (FramedWrap.framedWrapOpening context between start m)
-        → FramedWrap.OpensExactly context between start m (framedUnwrappedNumber answer) (framedUnwrappedSequence answer) (framedUnwrappedSealed answer) (framedUnwrappedLength answer) after
+    pub framed-wrap-returned : n < sequenceNumbers → length confounder ≡ 8 → Octets confounder → Octets buf → {m : ℕ} {answer : Unwrapped} {after : List ℕ} → w ≡ extent.Octets m
+        → after ≡ FramedWrap.openedBuffer context between start m
+        → FramedWrap.OpensExactly context between start m (unwrappedNumber answer) (unwrappedSequence answer) (unwrappedSealed answer) (unwrappedLength answer) after
         → FramedWrapReturns context framed-wrapped framed-parts start buf answer after
     framed-wrap-returned fits eight confounder-octets bytes {m} {answer} {after} told after-is exact =
         record {

@@ -3,12 +3,7 @@ use mathlib.Core.Path.{_≡_}
 use mathlib.Core.List.{List}
 use Prim.Native.Nat.{ℕ, _+_}
 use lib.ListN.{length}
-use Rattle.frame.specs.Answer.{framedUnwrappedNumber, framedUnwrappedSequence, framedUnwrappedSealed, framedUnwrappedLength, openedBuffer}
 use Rattle.frame.specs.Wrap as FramedWrap
-use Rattle.frame.specs.declared.answer.FramedSequence.{FramedSequence}
-use Rattle.frame.specs.declared.answer.FramedSequence.the-variants as framed-sequence
-use Rattle.frame.specs.declared.answer.FramedUnwrapped.{FramedUnwrapped}
-use Rattle.frame.specs.declared.answer.FramedUnwrapped.the-variants as framed-unwrapped
 use Rattle.tokens.specs.Answer.{Outcome, done, refused, extentNumber, extentOctets, unwrappedNumber, unwrappedSequence, unwrappedSealed, unwrappedLength}
 use Rattle.tokens.specs.Limits.{placed, bufferAfter}
 use Rattle.tokens.specs.Message as Message
@@ -30,7 +25,7 @@ pub record MessageReturns (key : List ℕ) (strength : Strength) (usage : ℕ) (
       → after ≡ bufferAfter Message.plain (start + 16) (placed start octets buf) (Message.decryption key strength usage (placed start octets buf) start (length octets))
   pub outward : (q : Refusal) → written ≡ refused q → (answer ≡ extent.Refused q) × (after ≡ buf)
 
--- a MIC token: its sequence number, and the token in the buffer
+-- a MIC token, framed or not: its sequence number, and the token in the buffer
 pub record MicReturns (written : Outcome (List ℕ)) (n : ℕ) (start : ℕ) (buf : List ℕ) (answer : Sequence) (after : List ℕ) : Type 0 where
   pub back : (octets : List ℕ) → written ≡ done octets → answer ≡ sequence.Number n
   pub buffer : (octets : List ℕ) → written ≡ done octets → after ≡ placed start octets buf
@@ -44,16 +39,10 @@ pub record WrapReturns (context : Context) (written : Outcome (List ℕ)) (p : W
       → after ≡ bufferAfter Wrap.plain (start + 24) (placed start octets buf) (Wrap.wrapOpening context (placed start octets buf) start (length octets))
   pub outward : (q : Refusal) → written ≡ refused q → (answer ≡ unwrapped.Refused q) × (after ≡ buf)
 
--- a framed MIC token
-pub record FramedMicReturns (written : Outcome (List ℕ)) (n : ℕ) (start : ℕ) (buf : List ℕ) (answer : FramedSequence) (after : List ℕ) : Type 0 where
-  pub back : (octets : List ℕ) → written ≡ done octets → answer ≡ framed-sequence.Token (sequence.Number n)
-  pub buffer : (octets : List ℕ) → written ≡ done octets → after ≡ placed start octets buf
-  pub outward : (q : Refusal) → written ≡ refused q → (answer ≡ framed-sequence.Token (sequence.Refused q)) × (after ≡ buf)
-
 -- a framed Wrap token, as `framed_wrap_open` hands it back
-pub record FramedWrapReturns (context : Context) (written : Outcome (List ℕ)) (p : Wrap.Parts) (start : ℕ) (buf : List ℕ) (answer : FramedUnwrapped) (after : List ℕ) : Type 0 where
+pub record FramedWrapReturns (context : Context) (written : Outcome (List ℕ)) (p : Wrap.Parts) (start : ℕ) (buf : List ℕ) (answer : Unwrapped) (after : List ℕ) : Type 0 where
   pub back : (octets : List ℕ) → written ≡ done octets
-      → FramedWrap.HandedBack p start (length octets) (framedUnwrappedNumber answer) (framedUnwrappedSequence answer) (framedUnwrappedSealed answer) (framedUnwrappedLength answer) after
+      → FramedWrap.HandedBack p start (length octets) (unwrappedNumber answer) (unwrappedSequence answer) (unwrappedSealed answer) (unwrappedLength answer) after
   pub buffer : (octets : List ℕ) → written ≡ done octets
-      → after ≡ openedBuffer start (placed start octets buf) (FramedWrap.framedWrapOpening context (placed start octets buf) start (length octets))
-  pub outward : (q : Refusal) → written ≡ refused q → (answer ≡ framed-unwrapped.Token (unwrapped.Refused q)) × (after ≡ buf)
+      → after ≡ FramedWrap.openedBuffer context (placed start octets buf) start (length octets)
+  pub outward : (q : Refusal) → written ≡ refused q → (answer ≡ unwrapped.Refused q) × (after ≡ buf)

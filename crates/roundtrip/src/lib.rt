@@ -7,9 +7,7 @@ ghost use Rattle.tokens.specs.Limits.{region};
 ghost use Rattle.tokens.specs.Message as Message;
 ghost use Rattle.tokens.specs.Mic as Mic;
 ghost use Rattle.tokens.specs.Wrap as Wrap;
-ghost use Rattle.roundtrip.specs.Returns.{MessageReturns, MicReturns, WrapReturns, FramedMicReturns, FramedWrapReturns};
-use frame::answer::FramedSequence;
-use frame::answer::FramedUnwrapped;
+ghost use Rattle.roundtrip.specs.Returns.{MessageReturns, MicReturns, WrapReturns, FramedWrapReturns};
 use frame::mic as framed_mic;
 use frame::wrap as framed_wrap;
 use tokens::answer::Extent;
@@ -81,12 +79,12 @@ pub fn framed_mic_then_read(
     data: &[u8],
     buf: &mut [u8],
     start: usize,
-) -> FramedSequence
-    ensures { λ r. ⌜ FramedMicReturns (framedMicWriting context sequence (now («data» .entry)) (now (buf .entry)) start) sequence start (now (buf .entry)) r (now (buf .exit)) ⌝ }
+) -> Sequence
+    ensures { λ r. ⌜ MicReturns (framedMicWriting context sequence (now («data» .entry)) (now (buf .entry)) start) sequence start (now (buf .entry)) r (now (buf .exit)) ⌝ }
 {
     match framed_mic::framed_mic_write(context, sequence, data, buf, start) {
         Extent::Octets(n) => framed_mic::framed_mic_read(context, data, buf, start, n),
-        Extent::Refused(refusal) => FramedSequence::Token(Sequence::Refused(refusal)),
+        Extent::Refused(refusal) => Sequence::Refused(refusal),
     }
 }
 
@@ -99,11 +97,11 @@ pub fn framed_wrap_then_open(
     buf: &mut [u8],
     start: usize,
     len: usize,
-) -> FramedUnwrapped
+) -> Unwrapped
     ensures { λ r. ⌜ FramedWrapReturns context (framedWrapWriting context sequence confounder sealed (now (buf .entry)) start len) (Wrap.parts sequence sealed confounder (region (framedMessageAt start len) len (now (buf .entry)))) start (now (buf .entry)) r (now (buf .exit)) ⌝ }
 {
     match framed_wrap::framed_wrap_write(context, sequence, confounder, sealed, buf, start, len) {
         Extent::Octets(n) => framed_wrap::framed_wrap_open(context, buf, start, n),
-        Extent::Refused(refusal) => FramedUnwrapped::Token(Unwrapped::Refused(refusal)),
+        Extent::Refused(refusal) => Unwrapped::Refused(refusal),
     }
 }

@@ -6,7 +6,7 @@ use Prim.Native.Nat.{ℕ, _≤_}
 use native.Mathlib.Omega.{arith}
 use lib.Dec.{leb}
 use borrow.Author.Tests.{leb-true}
-use Rattle.tokens.specs.Answer.{Outcome, done, refused, require, andThen, number, statusNumber, tested, digestAnswer, extentNumber, extentAnswer, sequenceRefusal, sequenceAnswer, unwrappedNumber, statusAnswer, stoppedDigest, stoppedExtent, stoppedSequence, stoppedUnwrapped}
+use Rattle.tokens.specs.Answer.{Outcome, done, refused, require, andThen, number, statusNumber, tested, digestAnswer, extentNumber, extentAnswer, sequenceRefusal, sequenceAnswer, unwrappedNumber, statusAnswer, IsRefused, zerosWith}
 use Rattle.tokens.specs.Limits.{within, bufferAfter}
 use Rattle.tokens.specs.Usage.{isUsage, typeOctets, notNamed, named}
 use Rattle.tokens.specs.declared.answer.Digest.{Digest}
@@ -53,17 +53,14 @@ module _ {A : Type 0} (b : Bool) (r : Refusal) (o : Outcome A) {s : Status} (e :
 -- ---- What is answered where a chain stops
 
 module _ {s : Status} {q : Refusal} (d : s ≡ Refused q) where
-  pub digest-refused : {o : Outcome (List ℕ)} {r : Digest} → o ≡ refused q → r ≡ stoppedDigest s → r ≡ digestAnswer o
+  pub is-refused : IsRefused s
+  is-refused = rw d tt
+
+  pub digest-refused : {o : Outcome (List ℕ)} {r : Digest} → o ≡ refused q → r ≡ zerosWith s → r ≡ digestAnswer o
   digest-refused e er = er ∙ rw (d, e)
 
-  pub extent-refused : {A : Type 0} (size : A → ℕ) {o : Outcome A} {r : Extent} → o ≡ refused q → r ≡ stoppedExtent s → r ≡ extentAnswer size o
-  extent-refused size e er = er ∙ rw (d, e)
-
-  pub sequence-refused : {o : Outcome ℕ} {r : Sequence} → o ≡ refused q → r ≡ stoppedSequence s → r ≡ sequenceAnswer o
-  sequence-refused e er = er ∙ rw (d, e)
-
-  pub unwrapped-refused : {o : Outcome Parts} {r : Unwrapped} → o ≡ refused q → r ≡ stoppedUnwrapped s → r ≡ unwrappedAnswer o
-  unwrapped-refused e er = er ∙ rw (d, e)
+  pub same-refusal : {A : Type 0} {o : Outcome A} {r : Refusal} → s ≡ Refused r → o ≡ refused q → o ≡ refused r
+  same-refusal {r = r} er e = let same : q ≡ r = (let both : Refused q ≡ Refused r = sym d ∙ er in cc) in e ∙ ap refused same
 
   pub status-refused : {A : Type 0} {o : Outcome A} → o ≡ refused q → s ≡ statusAnswer o
   status-refused e = rw (d, e)
@@ -97,6 +94,7 @@ never-zero Refusal.Header e = omega arith
 never-zero Refusal.Direction e = omega arith
 never-zero Refusal.Checksum e = omega arith
 never-zero Refusal.Pad e = omega arith
+never-zero Refusal.Frame e = omega arith
 
 module _ {A : Type 0} where
   pub require-done : (b : Bool) (r : Refusal) (o : Outcome A) (a : A) → require b r o ≡ done a → (b ≡ true) × (o ≡ done a)

@@ -7,7 +7,7 @@ use Rattle.tokens.specs.declared.answer.Digest.{Digest}
 use Rattle.tokens.specs.declared.answer.Extent.{Extent}
 use Rattle.tokens.specs.declared.answer.Extent.the-variants as extent
 use Rattle.tokens.specs.declared.answer.Refusal.{Refusal}
-use Rattle.tokens.specs.declared.answer.Refusal.the-variants.{Length, Region, Usage, Header, Direction, Checksum, Pad}
+use Rattle.tokens.specs.declared.answer.Refusal.the-variants.{Length, Region, Usage, Header, Direction, Checksum, Pad, Frame}
 use Rattle.tokens.specs.declared.answer.Sequence.{Sequence}
 use Rattle.tokens.specs.declared.answer.Sequence.the-variants as sequence
 use Rattle.tokens.specs.declared.answer.Status.{Status}
@@ -24,6 +24,7 @@ number Header = 4
 number Direction = 5
 number Checksum = 6
 number Pad = 7
+number Frame = 9
 
 -- what comes of a call: its result, or why it is refused
 pub data Outcome (A : Type 0) : Type 0 where
@@ -107,21 +108,14 @@ unfoldable pub tested : Bool → Refusal → Status
 tested true r = status.Done
 tested false r = status.Refused r
 
--- what a call answers that stops at a step's refusal
-abbrev pub stoppedDigest : Status → Digest
-stoppedDigest s = record { status = s; octets = replicate 16 0 }
+-- a step was refused
+abbrev pub IsRefused : Status → Type 0
+IsRefused status.Done = ⊥
+IsRefused (status.Refused r) = Unit {0}
 
-abbrev pub stoppedExtent : Status → Extent
-stoppedExtent status.Done = extent.Octets 0
-stoppedExtent (status.Refused r) = extent.Refused r
-
-abbrev pub stoppedSequence : Status → Sequence
-stoppedSequence status.Done = sequence.Number 0
-stoppedSequence (status.Refused r) = sequence.Refused r
-
-abbrev pub stoppedUnwrapped : Status → Unwrapped
-stoppedUnwrapped status.Done = unwrapped.Message 0 false 0
-stoppedUnwrapped (status.Refused r) = unwrapped.Refused r
+-- sixteen zeros beside the status of a step
+abbrev pub zerosWith : Status → Digest
+zerosWith s = record { status = s; octets = replicate 16 0 }
 
 -- whether a step that gives a sequence number is done
 abbrev pub sequenceStatus : Sequence → Status

@@ -2,7 +2,7 @@
 ghost use mathlib.Core.Path.{_≡_};
 ghost use Rattle.tokens.specs.Answer as Spec;
 
-// The refusals in the order of their numbers. The first that applies is given.
+// Why a call is refused: every number that a call of any crate returns, in their order. docs/RULES.md says when each is given.
 pub enum Refusal {
     Length,
     Region,
@@ -11,6 +11,7 @@ pub enum Refusal {
     Direction,
     Checksum,
     Pad,
+    Frame,
 }
 
 impl Refusal {
@@ -26,6 +27,7 @@ impl Refusal {
             Refusal::Direction => 5,
             Refusal::Checksum => 6,
             Refusal::Pad => 7,
+            Refusal::Frame => 9,
         }
     }
 }

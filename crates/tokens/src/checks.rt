@@ -1,17 +1,13 @@
-// The steps that make one test, and what a call answers that stops at one.
+// The steps that make one test.
 ghost use mathlib.Core.Path.{_≡_};
 ghost use lib.Dec.{leb};
 ghost use Prim.Native.Nat.{_+_};
-ghost use Rattle.tokens.specs.Answer.{tested, stoppedDigest, stoppedExtent, stoppedSequence, stoppedUnwrapped, sequenceStatus};
+ghost use Rattle.tokens.specs.Answer.{tested};
 ghost use Rattle.tokens.specs.Limits.{within};
 ghost use Rattle.tokens.specs.Octets as Spec;
 ghost use Rattle.tokens.specs.declared.answer.Refusal.the-variants as refusal;
-use crate::answer::Digest;
-use crate::answer::Extent;
 use crate::answer::Refusal;
-use crate::answer::Sequence;
 use crate::answer::Status;
-use crate::answer::Unwrapped;
 
 // Whether a length lies from `least` to `most`.
 pub fn length(least: usize, most: usize, n: usize) -> Status
@@ -63,58 +59,4 @@ pub fn equal(given: &[u8], expected: &[u8], refusal: Refusal) -> Status
         return Status::Done;
     }
     Status::Refused(refusal)
-}
-
-// A digest that is refused: sixteen zeros.
-pub fn stopped_digest(status: Status) -> Digest
-    ensures { λ r. ⌜ r ≡ stoppedDigest status ⌝ }
-{
-    Digest {
-        status: status,
-        octets: [0u8; 16],
-    }
-}
-
-// A number of octets that is refused.
-pub fn stopped_extent(status: Status) -> Extent
-    ensures { λ r. ⌜ r ≡ stoppedExtent status ⌝ }
-{
-    match status {
-        Status::Done => Extent::Octets(0),
-        Status::Refused(refusal) => Extent::Refused(refusal),
-    }
-}
-
-// A sequence number that is refused.
-pub fn stopped_sequence(status: Status) -> Sequence
-    ensures { λ r. ⌜ r ≡ stoppedSequence status ⌝ }
-{
-    match status {
-        Status::Done => Sequence::Number(0),
-        Status::Refused(refusal) => Sequence::Refused(refusal),
-    }
-}
-
-// A Wrap token that is refused.
-pub fn stopped_unwrapped(status: Status) -> Unwrapped
-    ensures { λ r. ⌜ r ≡ stoppedUnwrapped status ⌝ }
-{
-    match status {
-        Status::Done => Unwrapped::Message {
-            sequence: 0,
-            sealed: false,
-            length: 0,
-        },
-        Status::Refused(refusal) => Unwrapped::Refused(refusal),
-    }
-}
-
-// Whether there is a sequence number.
-pub fn sequence_status(sequence: Sequence) -> Status
-    ensures { λ r. ⌜ r ≡ sequenceStatus sequence ⌝ }
-{
-    match sequence {
-        Sequence::Number(_) => Status::Done,
-        Sequence::Refused(refusal) => Status::Refused(refusal),
-    }
 }

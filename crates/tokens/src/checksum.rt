@@ -7,10 +7,11 @@ use crate::answer::Refusal;
 use crate::answer::Status;
 use crate::checks;
 use crate::limits;
+use crate::mac;
+use crate::refused;
 use crate::usage::Usage;
 use primitives::hash::Algorithm;
 use primitives::hash::Hash;
-use primitives::hmac::Hmac;
 
 // "signaturekey", with its closing zero.
 const SIGNATUREKEY: [u8; 13] = [
@@ -34,7 +35,7 @@ pub fn signature_key(key: [u8; 16]) -> [u8; 16]
     ensures { λ r. ⌜ r ≡ Spec.signatureKey key ⌝ }
 {
     let text = SIGNATUREKEY;
-    Hmac::of(key, &text)
+    mac::of(key, &text)
 }
 
 // The checksum of the data for a T.
@@ -42,7 +43,7 @@ fn checksum_of(key: [u8; 16], t: [u8; 4], data: &[u8]) -> [u8; 16]
     ensures { λ r. ⌜ r ≡ Spec.checksum key t (now («data» .entry)) ⌝ }
 {
     let digest = Hash::new(Algorithm::Md5).update(&t).update(data).finish();
-    Hmac::of(signature_key(key), &digest)
+    mac::of(signature_key(key), &digest)
 }
 
 // The checksum of 0 to 32,768 octets.
@@ -51,14 +52,14 @@ pub fn checksum(key: [u8; 16], usage: u32, data: &[u8]) -> Digest
 {
     let sized = checks::length(0, limits::MOST_MESSAGE, data.len());
     let Status::Done = sized else {
-        return checks::stopped_digest(sized);
+        return refused::digest(sized);
     };
     let named = Usage::new(usage);
     let status = named.status;
     let Status::Done = status else {
-        return checks::stopped_digest(status);
+        return refused::digest(status);
     };
-    let t = named.usage.t;
+    let t = named.usage.t();
     Digest {
         status: status,
         octets: checksum_of(key, t, data),
@@ -82,7 +83,7 @@ pub fn checksum_test(key: [u8; 16], usage: u32, data: &[u8], checksum: &[u8]) ->
     let Status::Done = status else {
         return status;
     };
-    let t = named.usage.t;
+    let t = named.usage.t();
     let expected = checksum_of(key, t, data);
     checks::equal(checksum, &expected, Refusal::Checksum)
 }

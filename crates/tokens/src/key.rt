@@ -9,6 +9,7 @@ use crate::answer::Digest;
 use crate::answer::Status;
 use crate::checks;
 use crate::limits;
+use crate::refused;
 use primitives::hash::Algorithm;
 use primitives::hash::Hash;
 
@@ -35,7 +36,7 @@ pub fn password_key(units: &[u16]) -> Digest
     let n = units.len();
     let status = checks::length(0, limits::MOST_UNITS, n);
     let Status::Done = status else {
-        return checks::stopped_digest(status);
+        return refused::digest(status);
     };
     let octets = unicode(units);
     Digest {

@@ -12,11 +12,12 @@ use crate::answer::Status;
 use crate::checks;
 use crate::export;
 use crate::limits;
+use crate::mac;
 use crate::octets;
+use crate::refused;
 use crate::stream;
 use crate::strength::Strength;
 use crate::usage::Usage;
-use primitives::hmac::Hmac;
 
 // Octets before the message: the checksum's sixteen and the confounder's eight.
 pub const OVERHEAD: usize = 24;
@@ -49,7 +50,7 @@ fn derive(key: [u8; 16], strength: Strength, usage: Usage) -> Keys
     let salt = usage.salt(strength);
     let octets = salt.octets;
     let n = salt.length;
-    let k2 = Hmac::of(key, &octets[..n]);
+    let k2 = mac::of(key, &octets[..n]);
     let k1 = export::fill(strength, k2);
     Keys { k1: k1, k2: k2 }
 }
@@ -67,8 +68,8 @@ fn seal(
     let keys = derive(key, strength, usage);
     let k1 = keys.k1;
     let k2 = keys.k2;
-    let checksum = Hmac::of_two(k2, &confounder, message);
-    let k3 = Hmac::of(k1, &checksum);
+    let checksum = mac::of_two(k2, &confounder, message);
+    let k3 = mac::of(k1, &checksum);
     let encrypted = stream::run(k3, confounder, message);
     Front {
         checksum: checksum,
@@ -92,9 +93,9 @@ fn unseal(
     let k2 = keys.k2;
     let checksum = front.checksum;
     let confounder = front.confounder;
-    let k3 = Hmac::of(k1, &checksum);
+    let k3 = mac::of(k1, &checksum);
     let plain = stream::run(k3, confounder, message);
-    let expected = Hmac::of_two(k2, &plain, message);
+    let expected = mac::of_two(k2, &plain, message);
     let status = checks::equal(&checksum, &expected, Refusal::Checksum);
     let Status::Done = status else {
         let restored = stream::run(k3, plain, message);
@@ -153,17 +154,17 @@ pub fn encrypt(
 {
     let sized = checks::length(0, limits::MOST_MESSAGE, len);
     let Status::Done = sized else {
-        return checks::stopped_extent(sized);
+        return Extent::Refused(refused::by(sized));
     };
     let total = OVERHEAD + len;
     let placed = checks::region(start, total, buf.len());
     let Status::Done = placed else {
-        return checks::stopped_extent(placed);
+        return Extent::Refused(refused::by(placed));
     };
     let named = Usage::new(usage);
     let status = named.status;
     let Status::Done = status else {
-        return checks::stopped_extent(status);
+        return Extent::Refused(refused::by(status));
     };
     let named_usage = named.usage;
     let end = start + total;
@@ -188,22 +189,22 @@ pub fn decrypt(
 {
     let sized = checks::length(OVERHEAD, OVERHEAD + limits::MOST_MESSAGE, len);
     let Status::Done = sized else {
-        return checks::stopped_extent(sized);
+        return Extent::Refused(refused::by(sized));
     };
     let placed = checks::region(start, len, buf.len());
     let Status::Done = placed else {
-        return checks::stopped_extent(placed);
+        return Extent::Refused(refused::by(placed));
     };
     let named = Usage::new(usage);
     let status = named.status;
     let Status::Done = status else {
-        return checks::stopped_extent(status);
+        return Extent::Refused(refused::by(status));
     };
     let named_usage = named.usage;
     let end = start + len;
     let opened = read(key, strength, named_usage, &mut buf[start..end]);
     let Status::Done = opened else {
-        return checks::stopped_extent(opened);
+        return Extent::Refused(refused::by(opened));
     };
     Extent::Octets(len - OVERHEAD)
 }

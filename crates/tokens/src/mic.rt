@@ -13,6 +13,7 @@ use crate::checks;
 use crate::context::Context;
 use crate::limits;
 use crate::octets;
+use crate::refused;
 use crate::token;
 
 // Octets of a MIC token.
@@ -40,7 +41,7 @@ fn mic_number(context: Context, text: &[u8], token: [u8; 24]) -> Sequence
     let header = HEADER;
     let known = checks::equal(&token[..8], &header, Refusal::Header);
     let Status::Done = known else {
-        return checks::stopped_sequence(known);
+        return Sequence::Refused(refused::by(known));
     };
     let numbered = token::number_in(context, token);
     let Sequence::Number(_) = numbered else {
@@ -50,7 +51,7 @@ fn mic_number(context: Context, text: &[u8], token: [u8; 24]) -> Sequence
     let expected = mic_checksum(context, text);
     let status = checks::equal(&given, &expected, Refusal::Checksum);
     let Status::Done = status else {
-        return checks::stopped_sequence(status);
+        return Sequence::Refused(refused::by(status));
     };
     numbered
 }
@@ -68,11 +69,11 @@ pub fn mic_write(
 {
     let sized = checks::length(0, limits::MOST_MESSAGE, data.len());
     let Status::Done = sized else {
-        return checks::stopped_extent(sized);
+        return Extent::Refused(refused::by(sized));
     };
     let placed = checks::region(start, LENGTH, buf.len());
     let Status::Done = placed else {
-        return checks::stopped_extent(placed);
+        return Extent::Refused(refused::by(placed));
     };
     let sum = mic_checksum(context, data);
     let token = token::front(context, HEADER, sum, sequence);
@@ -88,15 +89,15 @@ pub fn mic_read(context: Context, data: &[u8], buf: &[u8], start: usize, len: us
 {
     let sized = checks::length(0, limits::MOST_MESSAGE, data.len());
     let Status::Done = sized else {
-        return checks::stopped_sequence(sized);
+        return Sequence::Refused(refused::by(sized));
     };
     let whole = checks::length(LENGTH, LENGTH, len);
     let Status::Done = whole else {
-        return checks::stopped_sequence(whole);
+        return Sequence::Refused(refused::by(whole));
     };
     let placed = checks::region(start, len, buf.len());
     let Status::Done = placed else {
-        return checks::stopped_sequence(placed);
+        return Sequence::Refused(refused::by(placed));
     };
     mic_number(context, data, octets::twenty_four(buf, start))
 }

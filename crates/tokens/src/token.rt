@@ -16,13 +16,13 @@ use crate::checksum;
 use crate::context::Context;
 use crate::context::Sender;
 use crate::export;
+use crate::mac;
 use crate::octets;
 use crate::stream;
 use crate::strength::Salt;
 use crate::strength::Strength;
 use primitives::hash::Algorithm;
 use primitives::hash::Hash;
-use primitives::hmac::Hmac;
 
 // Where SND_SEQ and SGN_CKSUM stand.
 const SEQUENCE_AT: usize = 8;
@@ -98,7 +98,7 @@ pub fn finish_checksum(key: [u8; 16], hash: Hash) -> [u8; 8]
     ensures { λ r. ⌜ r ≡ take 8 (hmac (signatureKey key) (finished hash)) ⌝ }
 {
     let digest = hash.finish();
-    let sum = Hmac::of(checksum::signature_key(key), &digest);
+    let sum = mac::of(checksum::signature_key(key), &digest);
     octets::eight(&sum, 0)
 }
 
@@ -109,7 +109,7 @@ fn salted_key(strength: Strength, key: [u8; 16]) -> [u8; 16]
     let salt = Salt::new(strength, [0u8; 4]);
     let octets = salt.octets;
     let n = salt.length;
-    export::fill(strength, Hmac::of(key, &octets[..n]))
+    export::fill(strength, mac::of(key, &octets[..n]))
 }
 
 // Kseq.
@@ -118,7 +118,7 @@ fn sequence_key(context: Context, sum: [u8; 8]) -> [u8; 16]
 {
     let key = context.key;
     let strength = context.strength;
-    Hmac::of(salted_key(strength, key), &sum)
+    mac::of(salted_key(strength, key), &sum)
 }
 
 // Klocal.
@@ -141,7 +141,7 @@ pub fn sealing_key(context: Context, n: u32) -> [u8; 16]
     let key = context.key;
     let strength = context.strength;
     let number = sequence_octets(n);
-    Hmac::of(salted_key(strength, local_key(key)), &number)
+    mac::of(salted_key(strength, local_key(key)), &number)
 }
 
 // The first 24 octets of a token.

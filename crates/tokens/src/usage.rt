@@ -10,7 +10,7 @@ use crate::strength::Strength;
 
 // What a key is used for: T, the message type as four octets, the lowest first.
 pub struct Usage {
-    pub t: [u8; 4],
+    t: [u8; 4],
 }
 
 // A usage by its number, or T as zeros with a refusal.
@@ -66,6 +66,14 @@ impl Usage {
                 t: [message_type(number), 0, 0, 0],
             },
         }
+    }
+
+    // T.
+    pub fn t(self) -> [u8; 4]
+        ensures { λ r. ⌜ r ≡ self .t ⌝ }
+    {
+        let t = self.t;
+        t
     }
 
     // The salt for this usage's T.

@@ -3,7 +3,7 @@ ghost use mathlib.Core.Path.{_≡_};
 ghost use mathlib.Core.List.{_++_};
 ghost use Prim.Native.Nat.{_+_, _-_, _≤_};
 ghost use lib.ListN.{length, take, drop};
-ghost use Rattle.tokens.specs.Answer.{statusAnswer, extentAnswer, unwrappedNumber, unwrappedSequence, unwrappedSealed, unwrappedLength};
+ghost use Rattle.tokens.specs.Answer.{statusAnswer, extentAnswer, sequenceStatus, unwrappedNumber, unwrappedSequence, unwrappedSealed, unwrappedLength};
 ghost use Rattle.tokens.specs.Limits.{bufferAfter};
 ghost use Rattle.tokens.specs.Message.{allOctets};
 ghost use Rattle.tokens.specs.Wrap as Spec;
@@ -16,6 +16,7 @@ use crate::checks;
 use crate::context::Context;
 use crate::limits;
 use crate::octets;
+use crate::refused;
 use crate::stream;
 use crate::token;
 
@@ -92,6 +93,16 @@ fn sealing_status(sealing: Sealing) -> Status
     }
 }
 
+// Whether there is a sequence number.
+fn sequence_status(sequence: Sequence) -> Status
+    ensures { λ r. ⌜ r ≡ sequenceStatus sequence ⌝ }
+{
+    match sequence {
+        Sequence::Number(_) => Status::Done,
+        Sequence::Refused(refusal) => Status::Refused(refusal),
+    }
+}
+
 // SGN_CKSUM over confounder and body, which are plain.
 fn wrap_checksum(context: Context, sealed: bool, confounder: [u8; 8], body: &[u8]) -> [u8; 8]
     ensures { λ r. ⌜ r ≡ Spec.wrapChecksum context sealed (confounder ++ now (body .entry)) ⌝ }
@@ -162,14 +173,14 @@ fn open_parts(context: Context, front: [u8; 24], confounder: [u8; 8], body: &mut
     let sealing = sealed_in(front);
     let Sealing::Sealed(sealed) = sealing else {
         return Opened {
-            answer: checks::stopped_unwrapped(sealing_status(sealing)),
+            answer: Unwrapped::Refused(refused::by(sealing_status(sealing))),
             confounder: confounder,
         };
     };
     let numbered = token::number_in(context, front);
     let Sequence::Number(sequence) = numbered else {
         return Opened {
-            answer: checks::stopped_unwrapped(checks::sequence_status(numbered)),
+            answer: Unwrapped::Refused(refused::by(sequence_status(numbered))),
             confounder: confounder,
         };
     };
@@ -178,7 +189,7 @@ fn open_parts(context: Context, front: [u8; 24], confounder: [u8; 8], body: &mut
     let Status::Done = status else {
         let restored = under_seal(context, sealed, sequence, plain, body);
         return Opened {
-            answer: checks::stopped_unwrapped(status),
+            answer: Unwrapped::Refused(refused::by(status)),
             confounder: restored,
         };
     };
@@ -248,12 +259,12 @@ pub fn wrap_write(
 {
     let sized = checks::length(0, limits::MOST_MESSAGE, len);
     let Status::Done = sized else {
-        return checks::stopped_extent(sized);
+        return Extent::Refused(refused::by(sized));
     };
     let total = OVERHEAD + len;
     let placed = checks::region(start, total, buf.len());
     let Status::Done = placed else {
-        return checks::stopped_extent(placed);
+        return Extent::Refused(refused::by(placed));
     };
     let end = start + total;
     write_token(context, sequence, confounder, sealed, &mut buf[start..end]);
@@ -270,11 +281,11 @@ pub fn wrap_open(context: Context, buf: &mut [u8], start: usize, len: usize) -> 
 {
     let sized = checks::length(OVERHEAD, OVERHEAD + limits::MOST_MESSAGE, len);
     let Status::Done = sized else {
-        return checks::stopped_unwrapped(sized);
+        return Unwrapped::Refused(refused::by(sized));
     };
     let placed = checks::region(start, len, buf.len());
     let Status::Done = placed else {
-        return checks::stopped_unwrapped(placed);
+        return Unwrapped::Refused(refused::by(placed));
     };
     let end = start + len;
     open_token(context, &mut buf[start..end])

@@ -13,7 +13,7 @@ fn write_key(name: &[u8], units: &[u16]) {
 
 fn write_type(name: &[u8], number: u32) {
     let named = Usage::new(number);
-    let t = named.usage.t;
+    let t = named.usage.t();
     text::write(name);
     text::write(b": ");
     text::write_decimal(number as usize);

@@ -2,6 +2,7 @@
 use libc::STDOUT_FILENO;
 use primitives::limits::Status;
 use primitives::whole::Digest;
+use tokens::answer::Refusal;
 
 // Octets as they are.
 pub fn write(octets: &[u8]) {
@@ -34,7 +35,7 @@ pub fn write_name(name: &[u8], number: usize) {
 pub fn write_status(status: Status) {
     match status {
         Status::Done => write_decimal(0),
-        Status::Length => write_decimal(1),
+        Status::Length => write_decimal(Refusal::Length.number() as usize),
     }
 }
 

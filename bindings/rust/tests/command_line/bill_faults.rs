@@ -223,7 +223,6 @@ fn a_whole_frame_with_too_long_a_token_is_refused_and_billing_goes_on() {
     check_bill(&TERMS, 0, &capture, "one after the other");
 }
 
-/// Too short for a token, down to nothing.
 /// One octet longer than the buffer, it can't be told from one that is cut off.
 #[test]
 fn a_frame_longer_than_the_buffer_is_a_fault() {
@@ -245,6 +244,7 @@ fn a_frame_longer_than_the_buffer_is_a_fault() {
     }
 }
 
+/// Too short for a token, down to nothing.
 #[test]
 fn a_whole_frame_with_too_short_a_token_is_refused_and_billing_goes_on() {
     let whole = token(0, 0);

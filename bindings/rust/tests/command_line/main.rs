@@ -3,6 +3,7 @@
 mod bill;
 mod bill_faults;
 mod bill_long;
+mod bill_open_pipe;
 mod command;
 mod files;
 mod messages;

@@ -36,6 +36,16 @@ fn the_sample_is_billed_out_of_a_pipe_and_out_of_its_file() {
     run_on(&MORNING, capture).must_print(&expected, "out of the file");
 }
 
+/// So a program that bills the number 0 for a refused token prints another line.
+#[test]
+fn the_sample_has_a_refused_token_before_the_number_0() {
+    let lines = String::from_utf8(sample("morning.expected")).unwrap();
+    let place = |words: &str| lines.lines().position(|line| line.ends_with(words));
+    let refused = place(" refused 6: the checksum differs").unwrap();
+    let billed = place(" sequence 0 in order length 34").unwrap();
+    assert!(refused < billed, "{lines}");
+}
+
 #[test]
 fn the_sample_record_is_opened() {
     let words = ["open", "samples/plant.key", "full", "initiator", "framed"];

@@ -2,7 +2,7 @@
 //! and Heimdal wrote, whole in their frames and out of them: each is opened,
 //! written again octet for octet, and refused where it should be.
 
-use rc4hmac::{Context, Opened, Refusal, Window};
+use rc4hmac::{Context, Opened, ReceivedMic, ReceivedWrap, Refusal, Window};
 use reference::clerk::{DUPLICATE, GAP, IN_ORDER};
 use reference::{read_lead, Clerk, Reading, TokenTerms, Wrap, PAD};
 use support::calls::context;
@@ -331,58 +331,93 @@ fn the_safe_functions_open_the_frames_and_write_them_again() {
     safe.check_opened_and_written_again(Sent::framed);
 }
 
+type ReceiveMic =
+    fn(&mut Window, &Context, &[u8], &[u8], usize, usize) -> Result<ReceivedMic, Refusal>;
+type ReceiveWrap =
+    fn(&mut Window, &Context, &mut [u8], usize, usize) -> Result<ReceivedWrap, Refusal>;
+
+/// The methods of a window that receive the tokens of one form.
+struct Receiver {
+    sent: fn(Token) -> Sent,
+    mic: ReceiveMic,
+    wrap: ReceiveWrap,
+}
+
+const UNFRAMED: Receiver = Receiver {
+    sent: Sent::unframed,
+    mic: Window::receive_mic,
+    wrap: Window::receive_wrap,
+};
+
+const FRAMED: Receiver = Receiver {
+    sent: Sent::framed,
+    mic: Window::receive_framed_mic,
+    wrap: Window::receive_framed_wrap,
+};
+
 /// The status of the number that a window gives the token.
-fn receive(window: &mut Window, sent: &Sent) -> Result<u32, Refusal> {
+fn receive(receiver: &Receiver, window: &mut Window, sent: &Sent) -> Result<u32, Refusal> {
     let (context, mut buf) = (context(&sent.terms), sent.octets.clone());
     let length = buf.len();
     let status = match sent.kind {
-        Kind::Mic => {
-            window
-                .receive_mic(&context, &sent.message, &buf, 0, length)?
-                .status
-        }
-        _ => window.receive_wrap(&context, &mut buf, 0, length)?.status,
+        Kind::Mic => (receiver.mic)(window, &context, &sent.message, &buf, 0, length)?.status,
+        _ => (receiver.wrap)(window, &context, &mut buf, 0, length)?.status,
     };
     Ok(status.number())
 }
 
 /// One sender's tokens of these kinds in the order of the file, and then once
 /// more.
-fn check_billed(tokens: Vec<Token>, export: bool, acceptor: bool, kinds: &[Kind]) -> Vec<u32> {
-    let mut session: Vec<Sent> = tokens.into_iter().map(Sent::unframed).collect();
+fn check_billed(
+    receiver: &Receiver,
+    tokens: Vec<Token>,
+    export: bool,
+    acceptor: bool,
+    kinds: &[Kind],
+) -> Vec<u32> {
+    let mut session: Vec<Sent> = tokens.into_iter().map(receiver.sent).collect();
     session.retain(|sent| (sent.terms.export, sent.terms.acceptor) == (export, acceptor));
     session.retain(|sent| kinds.contains(&sent.kind));
     let first = session[0].sequence;
     let (mut window, mut clerk) = (Window::new(first), Clerk::new(first));
     let mut statuses = Vec::new();
     for sent in &session {
-        let status = receive(&mut window, sent).unwrap();
+        let status = receive(receiver, &mut window, sent).unwrap();
         assert_eq!(status, clerk.bill(sent.sequence), "{:?}", sent.name());
         assert_eq!(window.words(), clerk.words());
         assert_eq!(window.missing(), clerk.missing());
         statuses.push(status);
     }
     for sent in &session {
-        assert_eq!(receive(&mut window, sent), Ok(DUPLICATE));
+        assert_eq!(receive(receiver, &mut window, sent), Ok(DUPLICATE));
     }
     assert_eq!(window.billed(), session.len() as u64);
     statuses
 }
 
 /// The file of MIT krb5 leaves out some numbers, and that of Heimdal none.
-#[test]
-fn a_window_bills_the_tokens_of_one_sender_as_the_clerk_bills() {
+fn check_senders(receiver: &Receiver) {
     for acceptor in [false, true] {
         for export in [false, true] {
             // A MIC, a sealed and a clear token have numbers that follow.
-            let statuses = check_billed(mit_krb5(), export, acceptor, &KINDS);
+            let statuses = check_billed(receiver, mit_krb5(), export, acceptor, &KINDS);
             assert_eq!(statuses[..4], [IN_ORDER, IN_ORDER, IN_ORDER, GAP]);
-            let statuses = check_billed(mit_krb5(), export, acceptor, &[Kind::Sealed]);
+            let statuses = check_billed(receiver, mit_krb5(), export, acceptor, &[Kind::Sealed]);
             assert!(statuses.len() >= 4);
             assert_eq!(statuses[0], IN_ORDER);
             assert!(statuses[1..].iter().all(|&status| status == GAP));
         }
-        let statuses = check_billed(heimdal(), false, acceptor, &KINDS);
+        let statuses = check_billed(receiver, heimdal(), false, acceptor, &KINDS);
         assert_eq!(statuses, [IN_ORDER; 15]);
     }
+}
+
+#[test]
+fn a_window_bills_the_tokens_of_one_sender_as_the_clerk_bills() {
+    check_senders(&UNFRAMED);
+}
+
+#[test]
+fn a_window_bills_the_frames_of_one_sender_as_the_clerk_bills() {
+    check_senders(&FRAMED);
 }

@@ -2,8 +2,9 @@
 //! around them, at every alignment.
 
 use rc4hmac::raw;
-use reference::{receive_outcomes, window, Receipt, TokenTerms, Words, Wrap, MIC};
+use reference::{window, Receipt, TokenTerms, Words, Wrap};
 use support::areas::Guarded;
+use support::programs::{Form, FRAMED, TOKENS};
 use support::{must_be_octets, AllTerms, Inputs, RandomWrap};
 
 fn octets_of(words: Words) -> Vec<u8> {
@@ -103,16 +104,23 @@ impl Lent {
         after
     }
 
-    fn receive_wrap(&mut self, words: Words, terms: &TokenTerms, start: usize, length: usize) {
+    fn receive_wrap(
+        &mut self,
+        form: &Form,
+        words: Words,
+        terms: &TokenTerms,
+        start: usize,
+        length: usize,
+    ) -> u32 {
         self.key.set(&terms.key);
         let buf = self.buf.lent();
         let buf_len = buf.len();
-        let expected = receive_outcomes::receive_wrap(words, terms, buf, start, length);
+        let expected = (form.expected_receipts.wrap)(words, terms, buf, start, length);
         let mut after = self.received(&expected);
         after[5] = self.sealed.with(&expected.reading.sealed.to_ne_bytes());
         after[6] = self.len.with(&expected.reading.len.to_ne_bytes());
         self.check(expected.reading.number, after, |lent| unsafe {
-            raw::rc4hmac_receive_wrap(
+            (form.receive.wrap)(
                 lent.window.ptr().cast(),
                 lent.key.ptr().cast(),
                 terms.export.into(),
@@ -127,16 +135,24 @@ impl Lent {
                 lent.status.ptr().cast(),
             )
         });
+        expected.reading.number
     }
 
-    fn receive_mic(&mut self, words: Words, terms: &TokenTerms, start: usize, length: usize) {
+    fn receive_mic(
+        &mut self,
+        form: &Form,
+        words: Words,
+        terms: &TokenTerms,
+        start: usize,
+        length: usize,
+    ) -> u32 {
         self.key.set(&terms.key);
         let (data, buf) = (self.data.lent(), self.buf.lent());
         let (data_len, buf_len) = (data.len(), buf.len());
-        let expected = receive_outcomes::receive_mic(words, terms, data, buf, start, length);
+        let expected = (form.expected_receipts.mic)(words, terms, data, buf, start, length);
         let after = self.received(&expected);
         self.check(expected.reading.number, after, |lent| unsafe {
-            raw::rc4hmac_receive_mic(
+            (form.receive.mic)(
                 lent.window.ptr().cast(),
                 lent.key.ptr().cast(),
                 terms.export.into(),
@@ -151,6 +167,7 @@ impl Lent {
                 lent.status.ptr().cast(),
             )
         });
+        expected.reading.number
     }
 }
 
@@ -166,42 +183,62 @@ fn windows_at_every_alignment_are_right_and_no_octet_beside_them_changes() {
     }
 }
 
-/// Whole tokens, damaged ones, other senders', and regions past the buffer.
-#[test]
-fn tokens_received_change_no_octet_but_the_answers_the_window_and_the_region() {
-    let mut inputs = Inputs::new(461);
+/// Whole tokens, damaged ones, other senders', regions past the buffer and too
+/// long ones, and damaged leads, headers and bodies.
+fn check_tokens_received(form: &Form, number: u64, refusals: &[u32]) {
+    let mut inputs = Inputs::new(number);
+    let mut met = [0; 10];
     for (alignment, len) in (0..16).flat_map(|alignment| [0, 1, 34, 64].map(|len| (alignment, len)))
     {
-        for mut terms in TokenTerms::all(&mut inputs) {
-            for fault in 0..5 {
+        for terms in TokenTerms::all(&mut inputs) {
+            for fault in 0..8 {
                 let words = inputs.words();
                 let sequence = inputs.sequence_near(&words);
                 let wrap = Wrap {
                     sequence,
                     ..Wrap::new(&mut inputs, len % 2 == 0, len)
                 };
-                let (mut wrapped, at) = inputs.around(&terms.wrap(&wrap));
-                let (mut signed, mic_at) = inputs.around(&terms.mic(sequence, &wrap.message));
-                let place = inputs.number(12, 23);
-                wrapped[at + place] ^= u8::from(fault == 1);
-                signed[mic_at + place] ^= u8::from(fault == 1);
-                terms.acceptor ^= fault == 2;
-                let past = if fault == 3 { 1_000 } else { 0 };
-                let longer = if fault == 4 { 32_768 } else { 0 };
-                let data = &wrap.message;
-                Lent::new(&mut inputs, words, &wrapped, data, alignment).receive_wrap(
-                    words,
-                    &terms,
-                    at + past,
-                    len + 33 + longer,
-                );
-                Lent::new(&mut inputs, words, &signed, data, alignment).receive_mic(
-                    words,
-                    &terms,
-                    mic_at + past,
-                    MIC + longer,
-                );
+                let writer = TokenTerms {
+                    acceptor: terms.acceptor != (fault == 2),
+                    ..terms
+                };
+                let tokens = [writer.wrap(&wrap), writer.mic(sequence, &wrap.message)];
+                for (token, is_mic) in tokens.into_iter().zip([false, true]) {
+                    let mut formed = form.form(&token);
+                    let lead = formed.len() - token.len();
+                    match fault {
+                        1 => formed[lead + inputs.number(12, 23)] ^= 1,
+                        5 => formed[inputs.number(0, 12)] ^= 1,
+                        6 => formed[lead] ^= 1,
+                        7 => *formed.last_mut().unwrap() ^= 1,
+                        _ => {}
+                    }
+                    let (buf, at) = inputs.around(&formed);
+                    let past = if fault == 3 { 1_000 } else { 0 };
+                    let longer = if fault == 4 { 32_768 } else { 0 };
+                    let mut lent = Lent::new(&mut inputs, words, &buf, &wrap.message, alignment);
+                    let (start, length) = (at + past, formed.len() + longer);
+                    let refusal = match is_mic {
+                        true => lent.receive_mic(form, words, &terms, start, length),
+                        false => lent.receive_wrap(form, words, &terms, start, length),
+                    };
+                    met[refusal as usize] += 1;
+                }
             }
         }
     }
+    for number in 0..10 {
+        let came = met[number as usize] > 0;
+        assert_eq!(came, refusals.contains(&number), "{number}: {met:?}");
+    }
+}
+
+#[test]
+fn tokens_received_change_no_octet_but_the_answers_the_window_and_the_region() {
+    check_tokens_received(&TOKENS, 461, &[0, 1, 2, 4, 5, 6]);
+}
+
+#[test]
+fn framed_tokens_received_change_no_octet_but_the_answers_the_window_and_the_region() {
+    check_tokens_received(&FRAMED, 466, &[0, 2, 4, 5, 6, 9]);
 }

@@ -4,9 +4,10 @@
 use std::thread;
 
 use rc4hmac::{raw, Window};
-use reference::{receive_outcomes, window, Clerk, TokenTerms, Words, Wrap, MIC};
+use reference::{window, Clerk, Receipt, TokenTerms, Words, Wrap};
 use support::areas::{empty_pointers, Side, Walled, SIDES};
-use support::calls::{self, context};
+use support::calls::{context, Flags};
+use support::programs::{FORMS, FRAMED};
 use support::{AllTerms, Inputs, MustBe, RandomWrap};
 
 fn octets_of(words: Words) -> Vec<u8> {
@@ -16,14 +17,18 @@ fn octets_of(words: Words) -> Vec<u8> {
 #[test]
 fn empty_areas_are_taken_or_refused_whatever_the_pointer() {
     let [terms, ..] = TokenTerms::all(&mut Inputs::new(462));
-    let token = terms.mic(5, &[]);
-    for empty in empty_pointers() {
+    for (form, empty) in FORMS
+        .into_iter()
+        .flat_map(|form| empty_pointers().map(|empty| (form, empty)))
+    {
+        let token = form.form(&terms.mic(5, &[]));
+        let len = token.len();
         let mut words = [5, 0, 0, 0];
-        let ([mut sequence, mut sealed, mut status], mut len) = ([9; 3], 9);
+        let ([mut sequence, mut sealed, mut status], mut message_len) = ([9; 3], 9);
         // SAFETY: with length 0 any pointer will do.
         unsafe {
             let (key, at) = (&terms.key, token.as_ptr());
-            let answer = raw::rc4hmac_receive_mic(
+            let answer = (form.receive.mic)(
                 &mut words,
                 key,
                 0,
@@ -31,14 +36,14 @@ fn empty_areas_are_taken_or_refused_whatever_the_pointer() {
                 empty,
                 0,
                 at,
-                MIC,
+                len,
                 0,
-                MIC,
+                len,
                 &mut sequence,
                 &mut status,
             );
             assert_eq!((answer, sequence, status), (0, 5, 1), "{empty:?}");
-            let answer = raw::rc4hmac_receive_mic(
+            let answer = (form.receive.mic)(
                 &mut words,
                 key,
                 0,
@@ -48,13 +53,13 @@ fn empty_areas_are_taken_or_refused_whatever_the_pointer() {
                 empty,
                 0,
                 0,
-                MIC,
+                len,
                 &mut sequence,
                 &mut status,
             );
             assert_eq!((answer, sequence, status), (2, 0, 0), "{empty:?}");
             status = 9;
-            let answer = raw::rc4hmac_receive_wrap(
+            let answer = (form.receive.wrap)(
                 &mut words,
                 key,
                 0,
@@ -62,15 +67,16 @@ fn empty_areas_are_taken_or_refused_whatever_the_pointer() {
                 empty,
                 0,
                 0,
-                33,
+                form.wrap_len(0),
                 &mut sequence,
                 &mut sealed,
-                &mut len,
+                &mut message_len,
                 &mut status,
             );
             assert_eq!((answer, sequence, status), (2, 0, 0), "{empty:?}");
         }
-        assert_eq!((sealed, len, words), (0, 0, [5, 1, 1, 1]), "{empty:?}");
+        assert_eq!((sealed, message_len), (0, 0), "{empty:?}");
+        assert_eq!(words, [5, 1, 1, 1], "{empty:?}");
     }
 }
 
@@ -87,15 +93,17 @@ fn no_octet_outside_a_window_is_reached() {
     let mut map = Walled::new(4096);
     let [terms, ..] = TokenTerms::all(&mut inputs);
     for side in SIDES {
-        for _ in 0..500 {
+        for turn in 0..1_000 {
+            let form = FORMS[turn % 2];
             let before = inputs.words();
             let sequence = inputs.sequence_near(&before);
             let (expected, after) = window::bill(before, sequence);
-            let mut token = terms.wrap(&Wrap {
+            let wrap = Wrap {
                 sequence,
                 ..Wrap::new(&mut inputs, true, 0)
-            });
-            let mic = terms.mic(sequence, b"data");
+            };
+            let mut token = form.form(&terms.wrap(&wrap));
+            let mic = form.form(&terms.mic(sequence, b"data"));
             let ([mut presented, mut sealed, mut status, mut missing], mut len) = ([9; 4], 9);
             // SAFETY: 32 octets at a multiple of 8, and areas of their own.
             unsafe {
@@ -108,16 +116,15 @@ fn no_octet_outside_a_window_is_reached() {
                 assert_eq!(*words, [sequence.into(), 0, 0, 0]);
 
                 let words = walled(side, &mut map, before);
-                let (key, at, at_mic) = (&terms.key, token.as_mut_ptr(), mic.as_ptr());
-                let answer = raw::rc4hmac_receive_wrap(
+                let answer = (form.receive.wrap)(
                     words,
-                    key,
+                    &terms.key,
                     0,
                     0,
-                    at,
-                    33,
+                    token.as_mut_ptr(),
+                    token.len(),
                     0,
-                    33,
+                    token.len(),
                     &mut presented,
                     &mut sealed,
                     &mut len,
@@ -127,18 +134,17 @@ fn no_octet_outside_a_window_is_reached() {
                 assert_eq!((status, *words), (expected, after));
 
                 let words = walled(side, &mut map, before);
-                let data = b"data".as_ptr();
-                let answer = raw::rc4hmac_receive_mic(
+                let answer = (form.receive.mic)(
                     words,
-                    key,
+                    &terms.key,
                     0,
                     0,
-                    data,
+                    b"data".as_ptr(),
                     4,
-                    at_mic,
-                    24,
+                    mic.as_ptr(),
+                    mic.len(),
                     0,
-                    24,
+                    mic.len(),
                     &mut presented,
                     &mut status,
                 );
@@ -149,22 +155,25 @@ fn no_octet_outside_a_window_is_reached() {
     }
 }
 
-/// All that the two calls read or write, each between its own walls.
+/// All that the four calls read or write, each between its own walls.
 #[test]
 fn tokens_are_received_without_a_step_outside_what_is_lent() {
     let mut inputs = Inputs::new(470);
     let [mut key_map, mut mic_map] = [0; 2].map(|_| Walled::new(4096));
     let (mut data_map, mut buf_map) = (Walled::new(32_768), Walled::new(36_864));
-    for side in SIDES {
-        for len in (0..=70).chain([4063, 4064, 32_767, 32_768]) {
+    for (side, form) in SIDES
+        .into_iter()
+        .flat_map(|side| FORMS.map(|form| (side, form)))
+    {
+        for len in (0..=90).chain([211, 212, 4063, 4064, 32_767, 32_768]) {
             for terms in TokenTerms::all(&mut inputs) {
                 let words = inputs.words();
                 let wrap = Wrap {
                     sequence: inputs.sequence_near(&words),
                     ..Wrap::new(&mut inputs, len % 2 == 0, len)
                 };
-                let token = terms.wrap(&wrap);
-                let mic = terms.mic(wrap.sequence, &wrap.message);
+                let token = form.form(&terms.wrap(&wrap));
+                let mic = form.form(&terms.mic(wrap.sequence, &wrap.message));
                 let put = |map: &mut Walled, octets: &[u8]| {
                     side(map, octets.len()).copy_from_slice(octets);
                 };
@@ -173,17 +182,42 @@ fn tokens_are_received_without_a_step_outside_what_is_lent() {
                 put(&mut buf_map, &token);
                 put(&mut mic_map, &mic);
 
-                let (flags, key) = (calls::Flags::of(&terms), &*side(&mut key_map, 16));
+                let (flags, key) = (Flags::of(&terms), &*side(&mut key_map, 16));
                 let key = key.try_into().unwrap();
-                let buf = side(&mut buf_map, len + 33);
-                let receipt = calls::receive_wrap_in_place(words, flags, key, buf, 0, len + 33);
-                let expected = receive_outcomes::receive_wrap(words, &terms, &token, 0, len + 33);
+                let (whole, buf) = (token.len(), side(&mut buf_map, token.len()));
+                let receipt = (form.receive).wrap_in_place(words, flags, key, buf, 0, whole);
+                let expected = (form.expected_receipts.wrap)(words, &terms, &token, 0, whole);
                 receipt.must_be(&expected, len);
-                let (data, buf) = (&*side(&mut data_map, len), &*side(&mut mic_map, MIC));
-                let receipt = calls::receive_mic_in_place(words, flags, key, data, buf, 0, MIC);
-                let expected =
-                    receive_outcomes::receive_mic(words, &terms, &wrap.message, &mic, 0, MIC);
+                let (whole, data) = (mic.len(), &*side(&mut data_map, len));
+                let buf = &*side(&mut mic_map, whole);
+                let receipt = (form.receive).mic_in_place(words, flags, key, data, buf, 0, whole);
+                let expected = (form.expected_receipts.mic)(words, &terms, data, &mic, 0, whole);
                 receipt.must_be(&expected, len);
+                assert_eq!(receipt.reading.number, 0);
+            }
+        }
+    }
+}
+
+/// Frames that are cut off, before a page that cannot be read.
+#[test]
+fn no_octet_after_the_end_of_a_region_is_received_as_a_frame() {
+    let mut inputs = Inputs::new(471);
+    let mut map = Walled::new(4096);
+    for terms in TokenTerms::all(&mut inputs) {
+        let long = terms.wrap(&Wrap::new(&mut inputs, true, 300));
+        for framed in [terms.mic(5, b"data"), long].map(|token| FRAMED.form(&token)) {
+            for cut in 0..framed.len() {
+                let words = inputs.words();
+                let (flags, key) = (Flags::of(&terms), &terms.key);
+                let buf = map.last(cut);
+                buf.copy_from_slice(&framed[..cut]);
+                let refused = Receipt::refused(9, words, buf);
+                let receipt =
+                    (FRAMED.receive).mic_in_place(words, flags, key, b"data", buf, 0, cut);
+                receipt.must_be(&refused, cut);
+                let receipt = (FRAMED.receive).wrap_in_place(words, flags, key, buf, 0, cut);
+                receipt.must_be(&refused, cut);
             }
         }
     }
@@ -194,11 +228,15 @@ fn tokens_are_received_without_a_step_outside_what_is_lent() {
 fn nothing_is_written_to_what_is_lent_for_reading() {
     let mut inputs = Inputs::new(464);
     let mut map = Walled::new(4096);
-    for terms in TokenTerms::all(&mut inputs) {
+    for (form, terms) in FORMS
+        .into_iter()
+        .flat_map(|form| TokenTerms::all(&mut Inputs::new(472)).map(|terms| (form, terms)))
+    {
         for len in [0, 1, 64, 300] {
             let (words, data) = (inputs.words(), inputs.octets(len));
             let sequence = inputs.sequence_near(&words);
-            let token = terms.mic(sequence, &data);
+            let token = form.form(&terms.mic(sequence, &data));
+            let whole = token.len();
             let lent = [&octets_of(words)[..], &terms.key, &token, &data].concat();
             map.first(lent.len()).copy_from_slice(&lent);
             map.set_writable(false);
@@ -208,10 +246,10 @@ fn nothing_is_written_to_what_is_lent_for_reading() {
             let answer = unsafe { raw::rc4hmac_window_missing(area.as_ptr().cast(), &mut missing) };
             assert_eq!((answer, missing), (0, window::missing(words)));
             let (key, rest) = area[32..].split_first_chunk().unwrap();
-            let (token, data) = rest.split_at(MIC);
-            let flags = calls::Flags::of(&terms);
-            let receipt = calls::receive_mic_in_place(words, flags, key, data, token, 0, MIC);
-            let expected = receive_outcomes::receive_mic(words, &terms, data, token, 0, MIC);
+            let (token, data) = rest.split_at(whole);
+            let flags = Flags::of(&terms);
+            let receipt = (form.receive).mic_in_place(words, flags, key, data, token, 0, whole);
+            let expected = (form.expected_receipts.mic)(words, &terms, data, token, 0, whole);
             receipt.must_be(&expected, len);
             map.set_writable(true);
         }
@@ -230,7 +268,12 @@ fn windows_in_several_threads_at_once_do_not_disturb_each_other() {
                 for step in 0..2_000 {
                     let sequence = clerk.at(step + inputs.number(0, 70) as u64);
                     let token = terms.mic(sequence, b"data");
-                    let received = window.receive_mic(&context, b"data", &token, 0, MIC);
+                    let received = if step % 2 == 0 {
+                        let framed = FRAMED.form(&token);
+                        window.receive_framed_mic(&context, b"data", &framed, 0, framed.len())
+                    } else {
+                        window.receive_mic(&context, b"data", &token, 0, token.len())
+                    };
                     assert_eq!(received.unwrap().status.number(), clerk.bill(sequence));
                     assert_eq!(window.words(), clerk.words());
                 }

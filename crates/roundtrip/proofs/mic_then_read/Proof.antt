@@ -1,7 +1,8 @@
 -- What the writer left in the buffer is what the reader is promised to read.
 use Prim.Native.Nat.{_<_}
+use Rattle.tokens.specs.Mic as Mic
 use Rattle.tokens.specs.Token.{sequenceNumbers}
-use Rattle.roundtrip.proofs.Returned.{mic-outward, mic-returned}
+use Rattle.roundtrip.proofs.Returned.{mic-outward, mic-returned, mic-written}
 use borrow.Author.Needs.{needs}
 use Rattle.roundtrip.proofs.mic_then_read.Statement.{statement}
 use Rattle.roundtrip.proofs.mic_then_read.Tie as tie
@@ -11,15 +12,17 @@ fits c = search needs
 
 returns : tie.Need-returns
 returns c =
-    let a = c .before .before .before .before .before .before .before .before .before .before .before .args in
+    let start = c .before .before .before .before .before .before .before .before .before .before .before in
+    let a = start .args in
     let call = c .before .before .before .before .before .before .before .mic-write .ensures in
-    mic-returned (a .context) (a .sequence) (a .«data» .now) (a .buf .now) (a .start) (call .0) (call .1) (fits (c .before .before .before .before .before .before .before .before .before .before .before)) (c .before .before .before .n .given .1) (c .mic-read .ensures .1)
+    mic-returned (Mic.micWriting (a .context) (a .sequence) (a .«data» .now) (a .buf .now) (a .start)) (a .sequence) (a .buf .now) (a .start) (call .0) (call .1) (Mic.Written (a .context) (a .«data» .now) (a .sequence))
+    (mic-written (a .context) (a .sequence) (a .«data» .now) (a .buf .now) (a .start) (fits start)) (c .before .before .before .n .given .1) (λ h. c .mic-read .ensures .1 .always-then h (a .sequence))
 
 returns-2 : tie.Need-returns-2
 returns-2 c =
     let a = c .before .before .before .before .before .before .before .before .before .args in
     let call = c .before .before .before .before .before .mic-write .ensures in
-    mic-outward (a .context) (a .sequence) (a .«data» .now) (a .buf .now) (a .start) (call .0) (call .1) (c .before .refusal .given .1)
+    mic-outward (Mic.micWriting (a .context) (a .sequence) (a .«data» .now) (a .buf .now) (a .start)) (a .sequence) (a .buf .now) (a .start) (call .0) (call .1) (c .before .refusal .given .1)
 
 pub mic-then-read-spec : {M : Type 1} → statement M
 mic-then-read-spec = tie.close (tie.spec (λ c κs. search needs) (λ c. search needs) (λ c κs. search needs) (λ c. search needs) (λ c. search needs) returns (λ c. search needs) returns-2)

@@ -3,11 +3,13 @@
 
 mod bill;
 mod calls;
+mod open_pipe;
 mod scratch;
 mod words;
 
 pub use bill::{check_bill, check_bill_in_pieces};
 pub use calls::{calls, Call, USAGES};
+pub use open_pipe::OpenPipe;
 pub use scratch::Scratch;
 pub use words::{message_words, token_words};
 

@@ -1,93 +1,67 @@
--- Each way out has its law in `proofs/Frames.antt`.
-use mathlib.Core.Path.{_≡_, sym, ap, _∙_}
-use mathlib.Core.List.{List}
-use Prim.Native.Nat.{ℕ, _+_, _-_, _≤_}
+-- Each way out has its law in `proofs/Fronts.antt`.
+use mathlib.Core.Path.{_≡_, subst, sym, _∙_}
+use mathlib.Core.List.{_∷_}
+use Prim.Native.Nat.{_+_, _≤_}
 use native.Mathlib.Omega.{arith}
-use lib.ListN.{length, take, drop, length-drop, List·getD-eq-default}
-use lib.Seq.{take-all}
+use lib.ListN.{length}
 use borrow.Author.Needs.{needs}
-use Rattle.tokens.specs.Octets.{same}
-use Rattle.frame.specs.Framing.{mechanism}
-use Rattle.frame.specs.Length.{contentsIn}
-use Rattle.frame.specs.declared.framing.Framing.the-variants.{Token}
-use Rattle.frame.specs.declared.length.Contents.the-variants.{Counted}
-use Rattle.frame.proofs.Frames as Law
+use Rattle.frame.specs.Framing.{tag}
+use Rattle.frame.specs.Length.{LengthIs}
+use Rattle.frame.specs.declared.length.Contents.{Contents}
+use Rattle.frame.specs.declared.length.Contents.the-variants.{Counted, Cut}
+use Rattle.frame.proofs.Fronts as Law
 use Rattle.frame.proofs.framing.framing_in.Statement.{statement}
 use Rattle.frame.proofs.framing.framing_in.Tie as tie
 
-returns : tie.Need-returns
-returns c =
-    let octets = c .before .before .args .octets .now in
-    let none : length octets ≤ 0 = omega arith in
-    sym (Law.other-tag octets (λ e. omega (arith, List·getD-eq-default octets 0 {n = 0} none)))
+tagged : (c : tie.Else2) → let octets = c .before .before .before .before .args .octets .now in octets ≡ tag ∷ Law.from 1 octets
+tagged c = Law.tagged (c .before .before .before .before .args .octets .now) (omega arith) (c .if2 .left)
 
 -- the length was read
-read : (c : tie.After-contents-in) → c .contents-in .result ≡ contentsIn (drop 1 (c .before .before .before .before .before .before .args .octets .now))
-read c =
-    let octets = c .before .before .before .before .before .before .args .octets .now in
-    c .contents-in .ensures ∙ ap contentsIn (take-all (length octets - 1) (drop 1 octets) (rw length-drop (omega arith)))
+read : (c : tie.After-contents-in) (r : Contents) → c .contents-in .result ≡ r → LengthIs 11 (Law.from 1 (c .before .before .before .before .before .before .args .octets .now)) r
+read c r e = subst (λ (s : Contents). LengthIs 11 (Law.from 1 (c .before .before .before .before .before .before .args .octets .now)) s) e (c .contents-in .ensures)
 
--- and it counts so many octets
-module _ (c : tie.After-contents) where
-  abbrev octets : List ℕ
-  octets = c .before .before .before .before .before .before .before .before .args .octets .now
+counted : (c : tie.After-known-told) → LengthIs 11 (Law.from 1 (c .before .before .before .before .before .before .before .before .before .args .octets .now)) (Counted (c .before .width .given .0 .0) (c .before .width .given .0 .1 .0))
+counted c = read (c .before .before .before) _ (c .before .width .given .1)
 
-  abbrev width : ℕ
-  width = c .contents .given .0 .0
+there : (c : tie.After-known-told) → (1 + c .before .width .given .0 .0 + c .before .width .given .0 .1 .0 ≤ length (c .before .before .before .before .before .before .before .before .before .args .octets .now)) × (11 ≤ c .before .width .given .0 .1 .0)
+there c = let l = counted c in omega (arith, Law.sizes _ (omega arith) (tagged (c .before .before .before .before .before)) _ _ (l .0) (l .1) (l .2) (l .3), l .3, l .4)
 
-  abbrev value : ℕ
-  value = c .contents .given .0 .1 .0
+cut : (c : tie.After-known-told2) → LengthIs 11 (Law.from 1 (c .before .before .before .before .before .before .before .before .before .args .octets .now)) (Cut (c .before .width2 .given .0 .0))
+cut c = read (c .before .before .before) _ (c .before .width2 .given .1)
 
-  counted : contentsIn (drop 1 octets) ≡ Counted width value
-  counted = sym (read (c .before .before)) ∙ c .contents .given .1
-
-  there : 1 + width + value ≤ length octets
-  there = Law.within-octets octets width value counted (omega arith)
-
-  lent : take (1 + width + 11 - (1 + width)) (drop (1 + width) octets) ≡ take 11 (drop (1 + width) octets)
-  lent = let eleven : 1 + width + 11 - (1 + width) ≡ 11 = omega arith in ap (λ (k : ℕ). take k (drop (1 + width) octets)) eleven
-
-returns-3 : tie.Need-returns-3
-returns-3 c = sym (Law.no-contents _ (sym (read (c .before .before)) ∙ c .enum-told .given .1))
-
-returns-4 : tie.Need-returns-4
-returns-4 c = let found = c .before .before in sym (Law.too-few _ _ _ (counted found) (c .if3 .taken))
-
-returns-5 : tie.Need-returns-5
-unfolding mechanism
-returns-5 c =
-    let found = c .before .before .before .before .before .before in
-    let lead : 12 + width found ≡ 1 + width found + 11 = omega arith in
-    sym (Law.framed _ _ _ (counted found) (c .before .before .before .before .before .before .before .before .before .before .if2 .left) (c .before .before .before .before .if3 .left) (ap (λ (l : List ℕ). same l mechanism) (sym (lent found)) ∙ sym (c .before .same .ensures) ∙ c .if4 .taken)
-    ∙ ap (λ (k : ℕ). Token k (value found - 11)) lead)
-
-returns-6 : tie.Need-returns-6
-unfolding mechanism
-returns-6 c =
-    let found = c .before .before .before .before .before .before in
-    sym (Law.other-mechanism _ _ _ (counted found) (ap (λ (l : List ℕ). same l mechanism) (sym (lent found)) ∙ sym (c .before .same .ensures) ∙ c .if4 .left))
+there-2 : (c : tie.After-known-told2) → 1 + c .before .width2 .given .0 .0 ≤ length (c .before .before .before .before .before .before .before .before .before .args .octets .now)
+there-2 c = let l = cut c in omega (arith, Law.sizes _ (omega arith) (tagged (c .before .before .before .before .before)) _ (l .0) (l .1) (l .2) (l .3) (l .4))
 
 pub framing-in-spec : {M : Type 1} → statement M
 framing-in-spec =
     tie.close
     (tie.spec
-    returns
+    (λ c. Law.none _ (c .if1 .taken))
     (λ c. search needs)
-    (λ c. sym (Law.other-tag _ (c .if2 .taken)))
-    (λ c. search needs)
-    (λ c. search needs)
-    (λ c. search needs)
-    (λ c κs. search needs)
+    (λ c. Law.other-tag (c .before .before .before .before .args .octets .now) (omega arith) (omega arith) (c .if2 .taken))
     (λ c. search needs)
     (λ c. search needs)
-    returns-3
-    returns-4
-    (λ c. omega (arith, there (c .before .before)))
-    (λ c. omega (arith, there (c .before .before)))
-    (λ c. search needs)
-    (λ c. search needs)
-    (λ c. omega (arith, there (c .before .before)))
     (λ c. search needs)
     (λ c κs. search needs)
-    returns-5
-    returns-6)
+    (λ c. search needs)
+    (λ c. omega (arith, there c))
+    (λ c. omega (arith, there c))
+    (λ c. omega (arith, there c))
+    (λ c. search needs)
+    (λ c κs. search needs)
+    (λ c. omega (arith, there (c .before .before .before)))
+    (λ c. omega (arith, there (c .before .before .before)))
+    (λ c. let l = counted (c .before .before .before) in Law.framed _ (omega arith) (tagged (c .before .before .before .before .before .before .before .before)) _ _ (l .0) (l .1) (l .2) (l .3) (sym (c .before .is-mechanism .ensures) ∙ c .if3 .taken) (l .4))
+    (λ c. search needs)
+    (λ c. omega (arith, there-2 c))
+    (λ c. omega (arith, there-2 c))
+    (λ c. omega (arith, there-2 c))
+    (λ c. search needs)
+    (λ c κs. search needs)
+    (λ c. let l = cut (c .before .before .before) in Law.cut-off _ (omega arith) (tagged (c .before .before .before .before .before .before .before .before)) _ (l .0) (l .1) (l .2) (l .3) (l .4) (sym (c .before .is-mechanism2 .ensures) ∙ c .if4 .taken) (l .5) (l .6))
+    (λ c. search needs)
+    (λ c. search needs)
+    (λ c. let l = counted (c .before .before .before) in Law.other-mechanism _ (omega arith) (tagged (c .before .before .before .before .before .before .before .before)) _ _ (l .0) (l .1) (l .2) (l .3) (sym (c .before .is-mechanism .ensures) ∙ c .if3 .left))
+    (λ c. let l = cut (c .before .before .before) in Law.other-mechanism _ (omega arith) (tagged (c .before .before .before .before .before .before .before .before)) _ (l .0) (l .1) (l .2) (l .3) (l .4) (sym (c .before .is-mechanism2 .ensures) ∙ c .if4 .left))
+    (λ c. Law.length-begun _ (omega arith) (tagged (c .before .before .before .before)) (read (c .before .before) _ (c .enum-told .given .1)))
+    (λ c. Law.no-length _ (omega arith) (tagged (c .before .before .before .before)) (read (c .before .before) _ (c .enum-told2 .given .1))))

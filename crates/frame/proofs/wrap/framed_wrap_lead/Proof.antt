@@ -1,10 +1,11 @@
 -- The refusal of the length, or the octets before the token.
-use mathlib.Core.Path.{sym, _∙_}
+use mathlib.Core.Path.{sym, ap, _∙_}
 use Prim.Native.Nat.{_≤_}
 use native.Mathlib.Omega.{arith}
 use lib.ListN.{length}
 use borrow.Author.Needs.{needs}
-use Rattle.tokens.proofs.Steps.{goes-on, stops, extent-refused, test-held, within-bounds}
+use Rattle.tokens.proofs.Steps.{is-refused, goes-on, stops, test-held, within-bounds}
+use Rattle.tokens.specs.Answer.{extentAnswer}
 use Rattle.frame.specs.Wrap as Spec
 use Rattle.frame.proofs.wrap.framed_wrap_lead.Statement.{statement}
 use Rattle.frame.proofs.wrap.framed_wrap_lead.Tie as tie
@@ -15,8 +16,7 @@ sized c = within-bounds 0 32768 (c .before .before .before .args .len) (test-hel
 returns : tie.Need-returns
 unfolding Spec.wrapLead
 returns c =
-    let told = c .before .enum-told2 .given .1 in
-    extent-refused told length (stops _ _ _ (c .before .before .before .length .ensures) told) (c .stopped-extent .ensures)
+    ap (extentAnswer length) (sym (stops _ _ _ (c .before .before .before .length .ensures) (c .by .ensures)))
 
 returns-2 : tie.Need-returns-2
 unfolding Spec.wrapLead
@@ -29,7 +29,7 @@ framed-wrap-lead-spec =
     (λ c κs. search needs)
     (λ c. search needs)
     (λ c. search needs)
-    (λ c κs. search needs)
+    (λ c κs. is-refused (c .enum-told2 .given .1))
     returns
     (λ c. omega (arith, sized c))
     (λ c κs. omega (arith, sized c))

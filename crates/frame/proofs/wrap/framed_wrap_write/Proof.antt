@@ -8,8 +8,8 @@ use lib.ListN.{length}
 use borrow.Author.Needs.{needs}
 use borrow.Author.Tests.{leb-true}
 use Rattle.tokens.proofs.Laws.{wrap-length, wrap-makes}
-use Rattle.tokens.proofs.Steps.{goes-on, stops, extent-refused, buffer-refused, test-held, within-bounds}
-use Rattle.tokens.specs.Answer.{done, tested}
+use Rattle.tokens.proofs.Steps.{is-refused, goes-on, stops, buffer-refused, test-held, within-bounds}
+use Rattle.tokens.specs.Answer.{done, tested, extentAnswer}
 use Rattle.tokens.specs.Limits.{region, placed, bufferAfter}
 use Rattle.tokens.specs.Message.{allOctets}
 use Rattle.tokens.specs.Wrap.{parts, wrapToken}
@@ -30,9 +30,9 @@ eight c = search needs
 returns : tie.Need-returns
 unfolding Spec.framedWrapWriting
 returns c =
-    let told = c .before .enum-told2 .given .1 in
+    let told = c .by .ensures in
     let refused = stops _ _ _ (c .before .before .before .length .ensures) told in
-    (extent-refused told length refused (c .stopped-extent .ensures), buffer-refused allOctets _ _ refused)
+    (ap (extentAnswer length) (sym refused), buffer-refused allOctets _ _ refused)
 
 -- the test of the region, by the definition
 region-tested : (c : tie.After-region) → let a = c .before .before .before .before .before .before .args in c .region .result ≡ tested (leb (a .start + (leadLength (33 + a .len) + (33 + a .len))) (length (a .buf .now))) Region
@@ -41,10 +41,10 @@ region-tested c = let a = c .before .before .before .before .before .before .arg
 returns-2 : tie.Need-returns-2
 unfolding Spec.framedWrapWriting
 returns-2 c =
-    let told = c .before .enum-told4 .given .1 in
+    let told = c .by2 .ensures in
     let first = c .before .before .before .before .before in
     let refused = goes-on _ _ _ (first .before .before .length .ensures) (first .enum-told .given .1) ∙ stops _ _ _ (region-tested (c .before .before .before)) told in
-    (extent-refused told length refused (c .stopped-extent2 .ensures), buffer-refused allOctets _ _ refused)
+    (ap (extentAnswer length) (sym refused), buffer-refused allOctets _ _ refused)
 
 -- both have been passed
 module _ (c : tie.After-enum-told3) where
@@ -111,7 +111,7 @@ framed-wrap-write-spec =
     (λ c κs. search needs)
     (λ c. search needs)
     (λ c. search needs)
-    (λ c κs. search needs)
+    (λ c κs. is-refused (c .enum-told2 .given .1))
     returns
     (λ c. omega (arith, sized c))
     (λ c κs. omega (arith, sized c))
@@ -119,7 +119,7 @@ framed-wrap-write-spec =
     (λ c κs. search needs)
     (λ c. search needs)
     (λ c. search needs)
-    (λ c κs. search needs)
+    (λ c κs. is-refused (c .enum-told4 .given .1))
     returns-2
     (λ c. omega (arith, inside (c .before)))
     (λ c κs. search needs)

@@ -22,6 +22,7 @@ to-front-spec =
     (tie.spec
     Inv-loop
     μ-loop
+    (λ c. search needs)
     (λ c. (omega arith, omega arith, omega arith))
     (λ c. omega arith)
     (λ c. omega arith)

@@ -24,7 +24,6 @@ named-digits-spec =
     (λ c. search needs)
     (λ c. search needs)
     (λ c κs. search needs)
-    (λ c κs. search needs)
     (λ c. search needs)
     (λ c. omega (arith, fits c))
     (λ c κs. search needs)

@@ -20,7 +20,6 @@ region-spec =
     (λ c. search needs)
     (λ c. search needs)
     (λ c κs. search needs)
-    (λ c κs. search needs)
     (λ c. search needs)
     (λ c. omega (arith, fits c))
     (λ c. search needs)

@@ -1,6 +1,6 @@
 -- The status of the call on whole slices as a number, and the data as it leaves them.
 use mathlib.Core.Path.{ap, _∙_}
-use Rattle.primitives.specs.Limits.{number}
+use Rattle.rc4hmac.specs.Primitives.{number}
 use borrow.Author.Needs.{needs}
 use Rattle.rc4hmac.proofs.algorithms.rc4hmac_rc4.Statement.{statement}
 use Rattle.rc4hmac.proofs.algorithms.rc4hmac_rc4.Tie as tie

@@ -7,7 +7,7 @@ use Rattle.rc4hmac.proofs.framed_tokens.rc4hmac_framed_wrap_open.Tie as
 returns : tie.Need-returns
 returns c =
     let call = rw (c .before .before .before .before .before .before .before .before .context-of .ensures) at (c .before .before .before .before .before .before .framed-wrap-open .ensures) in
-    let out = c .framed-unwrapped-out .ensures in
+    let out = c .unwrapped-out .ensures in
     (rw (call .0) at out, (call .1 .0, framed-opens-out (c .before .before .before .before .before .before .framed-wrap-open .result) out (call .1 .1)))
 
 pub rc4hmac-framed-wrap-open-spec : {M : Type 1} → statement M

@@ -43,11 +43,11 @@ returns-4 c =
     let whole = named .before .before .before in
     let sized = whole .before .before .before in
     let a = sized .before .before .before .before .before .args in
-    let expected = c .before .before .checksum-of .ensures ∙ ap (λ (t : List ℕ). Spec.checksum (a .key) t (a .«data» .now)) (named-type _ usage (named .enum-told5 .given .1)) in
+    let expected = c .before .before .checksum-of .ensures ∙ ap (λ (t : List ℕ). Spec.checksum (a .key) t (a .«data» .now)) (c .before .before .before .t .ensures ∙ named-type _ usage (named .enum-told5 .given .1)) in
     status-decided _ _ _ (c .equal .ensures ∙ ap (λ (x : List ℕ). tested (same (a .checksum .now) x) Checksum) expected)
     (goes-on _ _ _ (sized .before .before .length .ensures) (sized .enum-told .given .1)
     ∙ goes-on _ _ _ (whole .before .before .length2 .ensures) (whole .enum-told3 .given .1)
     ∙ goes-on _ _ _ (named-status _ usage) (named .enum-told5 .given .1))
 
 pub checksum-test-spec : {M : Type 1} → statement M
-checksum-test-spec = tie.close (tie.spec (λ c κs. search needs) (λ c. search needs) (λ c. search needs) returns (λ c κs. search needs) (λ c. search needs) (λ c. search needs) returns-2 (λ c κs. search needs) (λ c. search needs) (λ c. search needs) returns-3 (λ c κs. search needs) (λ c. search needs) (λ c κs. search needs) returns-4)
+checksum-test-spec = tie.close (tie.spec (λ c κs. search needs) (λ c. search needs) (λ c. search needs) returns (λ c κs. search needs) (λ c. search needs) (λ c. search needs) returns-2 (λ c κs. search needs) (λ c. search needs) (λ c. search needs) returns-3 (λ c κs. search needs) (λ c κs. search needs) (λ c. search needs) (λ c κs. search needs) returns-4)

@@ -27,7 +27,7 @@ returns : tie.Need-returns
 unfolding Spec.passwordKey
 returns c =
     let told = c .before .enum-told2 .given .1 in
-    digest-refused told (stops _ _ _ (c .before .before .before .length .ensures) told) (c .stopped-digest .ensures)
+    digest-refused told (stops _ _ _ (c .before .before .before .length .ensures) told) (c .digest .ensures)
 
 unicode-requires : tie.Need-unicode-requires
 unicode-requires c κs = most c

@@ -1,16 +1,16 @@
 -- The refusals of the length, the region, the usage and the checksum, in their order, or the region read; and from that, that reading
 -- succeeds exactly on what the rule writes.
-use mathlib.Core.Path.{_≡_, sym, _∙_}
+use mathlib.Core.Path.{_≡_, sym, _∙_, ap}
 use Prim.Native.Nat.{_+_, _-_, _≤_}
 use mathlib.Core.List.{_++_}
 use lib.ListN.{length, take, drop, length-take, length-drop}
 use borrow.Author.Tests.{leb-true}
 use Rattle.tokens.specs.Limits.{region, bufferAfter}
-use Rattle.tokens.specs.Answer.{statusAnswer}
+use Rattle.tokens.specs.Answer.{statusAnswer, extentAnswer}
 use Rattle.tokens.specs.Message as Spec
 use Rattle.tokens.specs.Usage.{typeOctets}
 use Rattle.primitives.specs.Octets.{Octets}
-use Rattle.tokens.proofs.Steps.{goes-on, stops, was-refused, extent-refused, buffer-refused, test-held, within-bounds, named-status, named-type}
+use Rattle.tokens.proofs.Steps.{goes-on, stops, was-refused, is-refused, buffer-refused, test-held, within-bounds, named-status, named-type}
 use Rattle.tokens.proofs.message.Exactly.{exact-clauses}
 use Rattle.tokens.proofs.message.Regions.{read-length, read-status, read-buffer}
 use borrow.Author.Needs.{needs}
@@ -67,26 +67,26 @@ buffer-is c =
 returns : tie.Need-returns
 unfolding Spec.decryption
 returns c =
-    let told = c .before .enum-told2 .given .1 in
+    let told = c .by .ensures in
     let a = c .before .before .before .before .before .args in
     let refused = stops _ _ _ (c .before .before .before .length .ensures) told in
     exact-clauses (a .key) (a .strength) (a .usage) (a .buf .now) (a .start) (a .len) (bytes (c .before .before .before .before))
-    (extent-refused told Spec.messageLength refused (c .stopped-extent .ensures)) (buffer-refused Spec.plain _ _ refused)
+    (ap (extentAnswer Spec.messageLength) (sym refused)) (buffer-refused Spec.plain _ _ refused)
 
 returns-2 : tie.Need-returns-2
 unfolding Spec.decryption
 returns-2 c =
-    let told = c .before .enum-told4 .given .1 in
+    let told = c .by2 .ensures in
     let first = c .before .before .before .before in
     let a = first .before .before .before .before .args in
     let refused = goes-on _ _ _ (first .before .before .length .ensures) (first .enum-told .given .1) ∙ stops _ _ _ (c .before .before .before .region .ensures) told in
     exact-clauses (a .key) (a .strength) (a .usage) (a .buf .now) (a .start) (a .len) (bytes (first .before .before .before))
-    (extent-refused told Spec.messageLength refused (c .stopped-extent2 .ensures)) (buffer-refused Spec.plain _ _ refused)
+    (ap (extentAnswer Spec.messageLength) (sym refused)) (buffer-refused Spec.plain _ _ refused)
 
 returns-3 : tie.Need-returns-3
 unfolding Spec.decryption
 returns-3 c =
-    let told = c .before .enum-told6 .given .1 in
+    let told = c .by3 .ensures in
     let second = c .before .before .before .before in
     let first = second .before .before .before in
     let a = first .before .before .before .before .args in
@@ -94,7 +94,7 @@ returns-3 c =
     ∙ goes-on _ _ _ (second .before .before .region .ensures) (second .enum-told3 .given .1)
     ∙ stops _ _ _ (named-status _ (c .before .before .before .new .ensures)) told in
     exact-clauses (a .key) (a .strength) (a .usage) (a .buf .now) (a .start) (a .len) (bytes (first .before .before .before))
-    (extent-refused told Spec.messageLength refused (c .stopped-extent3 .ensures)) (buffer-refused Spec.plain _ _ refused)
+    (ap (extentAnswer Spec.messageLength) (sym refused)) (buffer-refused Spec.plain _ _ refused)
 
 add-end : tie.Need-add-end
 add-end c = omega (arith, inside (c .before .before .before .before))
@@ -109,11 +109,11 @@ read-requires c κs =
 
 returns-4 : tie.Need-returns-4
 returns-4 c =
-    let told = c .before .enum-told8 .given .1 in
+    let told = c .by4 .ensures in
     let opened = c .before .before .before .before .before in
     let a = opened .before .before .before .before .before .before .before .before .before .before .before .before .before .args in
     exact-clauses (a .key) (a .strength) (a .usage) (a .buf .now) (a .start) (a .len) (bytes (opened .before .before .before .before .before .before .before .before .before .before .before .before))
-    (extent-refused told Spec.messageLength (passed opened ∙ was-refused _ (sym (status-is opened) ∙ told)) (c .stopped-extent4 .ensures)) (buffer-is opened)
+    (ap (extentAnswer Spec.messageLength) (sym (passed opened ∙ was-refused _ (sym (status-is opened) ∙ told)))) (buffer-is opened)
 
 sub-t14 : tie.Need-sub-t14
 sub-t14 c = omega (arith, sized (c .before .before .before .before .before .before .before .before .before .before .before .before .before) .0)
@@ -128,4 +128,4 @@ returns-5 c =
     (buffer-is opened)
 
 pub decrypt-spec : {M : Type 1} → statement M
-decrypt-spec = tie.close (tie.spec (λ c. search needs) (λ c κs. search needs) (λ c. search needs) (λ c. search needs) (λ c κs. search needs) returns (λ c κs. search needs) (λ c. search needs) (λ c. search needs) (λ c κs. search needs) returns-2 (λ c κs. search needs) (λ c. search needs) (λ c. search needs) (λ c κs. search needs) returns-3 add-end (λ c. search needs) (λ c. search needs) part-read-end read-requires (λ c. search needs) (λ c. search needs) (λ c κs. search needs) (λ c. search needs) returns-4 sub-t14 (λ c. search needs) returns-5)
+decrypt-spec = tie.close (tie.spec (λ c. search needs) (λ c κs. search needs) (λ c. search needs) (λ c. search needs) (λ c κs. is-refused (c .enum-told2 .given .1)) returns (λ c κs. search needs) (λ c. search needs) (λ c. search needs) (λ c κs. is-refused (c .enum-told4 .given .1)) returns-2 (λ c κs. search needs) (λ c. search needs) (λ c. search needs) (λ c κs. is-refused (c .enum-told6 .given .1)) returns-3 add-end (λ c. search needs) (λ c. search needs) part-read-end read-requires (λ c. search needs) (λ c. search needs) (λ c κs. is-refused (c .enum-told8 .given .1)) (λ c. search needs) returns-4 sub-t14 (λ c. search needs) returns-5)

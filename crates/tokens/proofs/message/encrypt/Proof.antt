@@ -1,13 +1,13 @@
 -- The refusals of the length, the region and the usage, in their order, or the region written.
-use mathlib.Core.Path.{_≡_, sym, _∙_}
+use mathlib.Core.Path.{_≡_, sym, _∙_, ap}
 use Prim.Native.Nat.{_+_, _-_, _≤_}
 use lib.ListN.{length}
 use borrow.Author.Tests.{leb-true}
-use Rattle.tokens.specs.Answer.{done}
+use Rattle.tokens.specs.Answer.{done, extentAnswer}
 use Rattle.tokens.specs.Limits.{region}
 use Rattle.tokens.specs.Message as Spec
 use Rattle.tokens.specs.Usage.{typeOctets}
-use Rattle.tokens.proofs.Steps.{goes-on, stops, extent-refused, buffer-refused, test-held, within-bounds, named-status, named-type}
+use Rattle.tokens.proofs.Steps.{goes-on, stops, is-refused, buffer-refused, test-held, within-bounds, named-status, named-type}
 use Rattle.tokens.proofs.message.Regions.{written-length, written-buffer}
 use borrow.Author.Needs.{needs}
 use native.Mathlib.Omega.{arith}
@@ -26,9 +26,9 @@ eight c = search needs
 returns : tie.Need-returns
 unfolding Spec.encryption
 returns c =
-    let told = c .before .enum-told2 .given .1 in
+    let told = c .by .ensures in
     let refused = stops _ _ _ (c .before .before .before .length .ensures) told in
-    (extent-refused told length refused (c .stopped-extent .ensures), buffer-refused Spec.allOctets _ _ refused)
+    (ap (extentAnswer length) (sym refused), buffer-refused Spec.allOctets _ _ refused)
 
 add-total : tie.Need-add-total
 add-total c = omega (arith, sized c)
@@ -36,21 +36,21 @@ add-total c = omega (arith, sized c)
 returns-2 : tie.Need-returns-2
 unfolding Spec.encryption
 returns-2 c =
-    let told = c .before .enum-told4 .given .1 in
+    let told = c .by2 .ensures in
     let first = c .before .before .before .before in
     let refused = goes-on _ _ _ (first .before .before .length .ensures) (first .enum-told .given .1) ∙ stops _ _ _ (c .before .before .before .region .ensures) told in
-    (extent-refused told length refused (c .stopped-extent2 .ensures), buffer-refused Spec.allOctets _ _ refused)
+    (ap (extentAnswer length) (sym refused), buffer-refused Spec.allOctets _ _ refused)
 
 returns-3 : tie.Need-returns-3
 unfolding Spec.encryption
 returns-3 c =
-    let told = c .before .enum-told6 .given .1 in
+    let told = c .by3 .ensures in
     let second = c .before .before .before .before in
     let first = second .before .before .before in
     let refused = goes-on _ _ _ (first .before .before .length .ensures) (first .enum-told .given .1)
     ∙ goes-on _ _ _ (second .before .before .region .ensures) (second .enum-told3 .given .1)
     ∙ stops _ _ _ (named-status _ (c .before .before .before .new .ensures)) told in
-    (extent-refused told length refused (c .stopped-extent3 .ensures), buffer-refused Spec.allOctets _ _ refused)
+    (ap (extentAnswer length) (sym refused), buffer-refused Spec.allOctets _ _ refused)
 
 add-end : tie.Need-add-end
 add-end c = omega (arith, inside (c .before .before .before .before))
@@ -81,4 +81,4 @@ returns-4 c =
     )
 
 pub encrypt-spec : {M : Type 1} → statement M
-encrypt-spec = tie.close (tie.spec (λ c κs. search needs) (λ c. search needs) (λ c. search needs) (λ c κs. search needs) returns add-total (λ c κs. search needs) (λ c. search needs) (λ c. search needs) (λ c κs. search needs) returns-2 (λ c κs. search needs) (λ c. search needs) (λ c. search needs) (λ c κs. search needs) returns-3 add-end (λ c. search needs) (λ c. search needs) part-write-end (λ c κs. search needs) (λ c. search needs) returns-4)
+encrypt-spec = tie.close (tie.spec (λ c κs. search needs) (λ c. search needs) (λ c. search needs) (λ c κs. is-refused (c .enum-told2 .given .1)) returns add-total (λ c κs. search needs) (λ c. search needs) (λ c. search needs) (λ c κs. is-refused (c .enum-told4 .given .1)) returns-2 (λ c κs. search needs) (λ c. search needs) (λ c. search needs) (λ c κs. is-refused (c .enum-told6 .given .1)) returns-3 add-end (λ c. search needs) (λ c. search needs) part-write-end (λ c κs. search needs) (λ c. search needs) returns-4)

@@ -11,7 +11,7 @@ use Rattle.tokens.specs.Octets.{same}
 use Rattle.tokens.specs.Mic as Spec
 use Rattle.tokens.specs.Token.{checksumIn, numberIn}
 use Rattle.tokens.specs.declared.answer.Refusal.the-variants.{Checksum}
-use Rattle.tokens.proofs.Steps.{goes-on, stops, then-on, then-stops, was-number, no-number, sequence-refused}
+use Rattle.tokens.proofs.Steps.{goes-on, stops, then-on, then-stops, was-number, no-number, is-refused}
 use borrow.Author.Needs.{needs}
 use native.Mathlib.Omega.{arith}
 use Rattle.tokens.proofs.mic.mic_number.Statement.{statement}
@@ -43,8 +43,8 @@ slice-aggregate-equal c = let size = twenty-four (c .before .before) in sym (len
 returns : tie.Need-returns
 unfolding Spec.micNumber Spec.header
 returns c =
-    let told = c .before .enum-told2 .given .1 in
-    sequence-refused told (stops _ _ _ (c .before .before .before .equal .ensures) told) (c .stopped-sequence .ensures)
+    let told = c .by .ensures in
+    ap sequenceAnswer (sym (stops _ _ _ (c .before .before .before .equal .ensures) told))
 
 returns-2 : tie.Need-returns-2
 returns-2 c =
@@ -53,11 +53,11 @@ returns-2 c =
 
 returns-3 : tie.Need-returns-3
 returns-3 c =
-    let told = c .before .enum-told6 .given .1 in
-    sequence-refused told (numbered (c .before .before .before .before .before .before .before .before) ∙ stops _ _ _ (checked (c .before .before .before)) told) (c .stopped-sequence2 .ensures)
+    let told = c .by2 .ensures in
+    ap sequenceAnswer (sym (numbered (c .before .before .before .before .before .before .before .before) ∙ stops _ _ _ (checked (c .before .before .before)) told))
 
 returns-4 : tie.Need-returns-4
 returns-4 c = c .before .before .before .before .before .before .before .enum-told3 .given .1 ∙ sym (ap sequenceAnswer (numbered (c .before .before .before .before .before .before .before) ∙ goes-on _ _ _ (checked (c .before .before)) (c .enum-told5 .given .1)))
 
 pub mic-number-spec : {M : Type 1} → statement M
-mic-number-spec = tie.close (tie.spec (λ c. search needs) slice-aggregate-equal (λ c. search needs) (λ c κs. search needs) (λ c. search needs) (λ c. search needs) (λ c κs. search needs) returns (λ c κs. search needs) (λ c. search needs) (λ c. search needs) returns-2 (λ c κs. search needs) (λ c κs. search needs) (λ c. search needs) (λ c. search needs) (λ c κs. search needs) (λ c. search needs) (λ c. search needs) (λ c κs. search needs) returns-3 returns-4)
+mic-number-spec = tie.close (tie.spec (λ c. search needs) slice-aggregate-equal (λ c. search needs) (λ c κs. search needs) (λ c. search needs) (λ c. search needs) (λ c κs. is-refused (c .enum-told2 .given .1)) returns (λ c κs. search needs) (λ c. search needs) (λ c. search needs) returns-2 (λ c κs. search needs) (λ c κs. search needs) (λ c. search needs) (λ c. search needs) (λ c κs. search needs) (λ c. search needs) (λ c. search needs) (λ c κs. is-refused (c .enum-told6 .given .1)) returns-3 returns-4)

@@ -8,7 +8,7 @@ use Rattle.primitives.specs.Octets.{Octets}
 use Rattle.tokens.specs.Answer.{sequenceAnswer}
 use Rattle.tokens.specs.Limits.{region}
 use Rattle.tokens.specs.Mic as Spec
-use Rattle.tokens.proofs.Steps.{goes-on, stops, sequence-refused, test-held, within-bounds}
+use Rattle.tokens.proofs.Steps.{goes-on, stops, is-refused, test-held, within-bounds}
 use Rattle.tokens.proofs.mic.Exactly.{exact-clauses}
 use borrow.Author.Needs.{needs}
 use native.Mathlib.Omega.{arith}
@@ -29,35 +29,31 @@ inside c = leb-true _ _ (test-held _ _ (sym (c .before .before .region .ensures)
 returns : tie.Need-returns
 unfolding Spec.micReading
 returns c =
-    let told = c .before .enum-told2 .given .1 in
+    let told = c .by .ensures in
     let a = c .before .before .before .before .before .before .args in
     exact-clauses (a .context) (a .«data» .now) (a .buf .now) (a .start) (a .len) (bytes (c .before .before .before .before))
-    (sequence-refused told (stops _ _ _ (c .before .before .before .length .ensures) told) (c .stopped-sequence .ensures))
+    (ap sequenceAnswer (sym (stops _ _ _ (c .before .before .before .length .ensures) told)))
 
 returns-2 : tie.Need-returns-2
 unfolding Spec.micReading
 returns-2 c =
-    let told = c .before .enum-told4 .given .1 in
+    let told = c .by2 .ensures in
     let first = c .before .before .before .before in
     let a = first .before .before .before .before .before .args in
     exact-clauses (a .context) (a .«data» .now) (a .buf .now) (a .start) (a .len) (bytes (first .before .before .before))
-    (sequence-refused told
-    (goes-on _ _ _ (first .before .before .length .ensures) (first .enum-told .given .1) ∙ stops _ _ _ (c .before .before .before .length2 .ensures) told)
-    (c .stopped-sequence2 .ensures))
+    (ap sequenceAnswer (sym (goes-on _ _ _ (first .before .before .length .ensures) (first .enum-told .given .1) ∙ stops _ _ _ (c .before .before .before .length2 .ensures) told)))
 
 returns-3 : tie.Need-returns-3
 unfolding Spec.micReading
 returns-3 c =
-    let told = c .before .enum-told6 .given .1 in
+    let told = c .by3 .ensures in
     let second = c .before .before .before .before in
     let first = second .before .before .before in
     let a = first .before .before .before .before .before .args in
     exact-clauses (a .context) (a .«data» .now) (a .buf .now) (a .start) (a .len) (bytes (first .before .before .before))
-    (sequence-refused told
-    (goes-on _ _ _ (first .before .before .length .ensures) (first .enum-told .given .1)
+    (ap sequenceAnswer (sym (goes-on _ _ _ (first .before .before .length .ensures) (first .enum-told .given .1)
     ∙ goes-on _ _ _ (second .before .before .length2 .ensures) (second .enum-told3 .given .1)
-    ∙ stops _ _ _ (c .before .before .before .region .ensures) told)
-    (c .stopped-sequence3 .ensures))
+    ∙ stops _ _ _ (c .before .before .before .region .ensures) told)))
 
 twenty-four-requires : tie.Need-twenty-four-requires
 twenty-four-requires c κs = omega (arith, inside c, twenty-four (c .before .before .before))
@@ -81,4 +77,4 @@ returns-4 c =
     ∙ goes-on _ _ _ (placed .before .before .region .ensures) (placed .enum-told5 .given .1))))
 
 pub mic-read-spec : {M : Type 1} → statement M
-mic-read-spec = tie.close (tie.spec (λ c κs. search needs) (λ c. search needs) (λ c. search needs) (λ c κs. search needs) returns (λ c κs. search needs) (λ c. search needs) (λ c. search needs) (λ c κs. search needs) returns-2 (λ c κs. search needs) (λ c. search needs) (λ c. search needs) (λ c κs. search needs) returns-3 twenty-four-requires (λ c κs. search needs) returns-4)
+mic-read-spec = tie.close (tie.spec (λ c κs. search needs) (λ c. search needs) (λ c. search needs) (λ c κs. is-refused (c .enum-told2 .given .1)) returns (λ c κs. search needs) (λ c. search needs) (λ c. search needs) (λ c κs. is-refused (c .enum-told4 .given .1)) returns-2 (λ c κs. search needs) (λ c. search needs) (λ c. search needs) (λ c κs. is-refused (c .enum-told6 .given .1)) returns-3 twenty-four-requires (λ c κs. search needs) returns-4)

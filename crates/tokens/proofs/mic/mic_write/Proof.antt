@@ -4,12 +4,12 @@ use mathlib.Core.List.{List}
 use Prim.Native.Nat.{ℕ, _+_, _≤_}
 use lib.ListN.{length}
 use borrow.Author.Tests.{leb-true}
-use Rattle.tokens.specs.Answer.{done}
+use Rattle.tokens.specs.Answer.{done, extentAnswer}
 use Rattle.tokens.specs.Limits.{placed}
 use Rattle.tokens.specs.Message.{allOctets}
 use Rattle.tokens.specs.Mic as Spec
 use Rattle.tokens.specs.Token.{front}
-use Rattle.tokens.proofs.Steps.{goes-on, stops, extent-refused, buffer-refused, test-held}
+use Rattle.tokens.proofs.Steps.{goes-on, stops, is-refused, buffer-refused, test-held}
 use Rattle.tokens.proofs.Lengths.{mic-length}
 use borrow.Author.Needs.{needs}
 use native.Mathlib.Omega.{arith}
@@ -26,17 +26,17 @@ token-is c = let a = c .before .before .before .before .before .before .before .
 returns : tie.Need-returns
 unfolding Spec.micWriting
 returns c =
-    let told = c .before .enum-told2 .given .1 in
+    let told = c .by .ensures in
     let refused = stops _ _ _ (c .before .before .before .length .ensures) told in
-    (extent-refused told length refused (c .stopped-extent .ensures), buffer-refused allOctets _ _ refused)
+    (ap (extentAnswer length) (sym refused), buffer-refused allOctets _ _ refused)
 
 returns-2 : tie.Need-returns-2
 unfolding Spec.micWriting
 returns-2 c =
-    let told = c .before .enum-told4 .given .1 in
+    let told = c .by2 .ensures in
     let first = c .before .before .before .before in
     let refused = goes-on _ _ _ (first .before .before .length .ensures) (first .enum-told .given .1) ∙ stops _ _ _ (c .before .before .before .region .ensures) told in
-    (extent-refused told length refused (c .stopped-extent2 .ensures), buffer-refused allOctets _ _ refused)
+    (ap (extentAnswer length) (sym refused), buffer-refused allOctets _ _ refused)
 
 place-requires : tie.Need-place-requires
 place-requires c κs =
@@ -58,4 +58,4 @@ returns-3 c =
     )
 
 pub mic-write-spec : {M : Type 1} → statement M
-mic-write-spec = tie.close (tie.spec (λ c κs. search needs) (λ c. search needs) (λ c. search needs) (λ c κs. search needs) returns (λ c κs. search needs) (λ c. search needs) (λ c. search needs) (λ c κs. search needs) returns-2 (λ c κs. search needs) (λ c κs. search needs) (λ c. search needs) place-requires (λ c. search needs) returns-3)
+mic-write-spec = tie.close (tie.spec (λ c κs. search needs) (λ c. search needs) (λ c. search needs) (λ c κs. is-refused (c .enum-told2 .given .1)) returns (λ c κs. search needs) (λ c. search needs) (λ c. search needs) (λ c κs. is-refused (c .enum-told4 .given .1)) returns-2 (λ c κs. search needs) (λ c κs. search needs) (λ c. search needs) place-requires (λ c. search needs) returns-3)

@@ -8,7 +8,7 @@ use Rattle.tokens.specs.Token.{checksumIn, numberIn}
 use Rattle.tokens.specs.Wrap as Spec
 use Rattle.tokens.specs.declared.answer.Sequence.the-variants as sequence
 use Rattle.tokens.specs.declared.wrap.Sealing.the-variants as sealing
-use Rattle.tokens.proofs.Steps.{unwrapped-refused, buffer-refused}
+use Rattle.tokens.proofs.Steps.{is-refused, same-refusal, buffer-refused}
 use Rattle.tokens.proofs.wrap.Opening.{header-refused, number-refused, text-refused, text-restored, opened-answer, opened-octets}
 use borrow.Author.Needs.{needs}
 use native.Mathlib.Omega.{arith}
@@ -37,18 +37,18 @@ returns c =
     let told = c .before .before .enum-told .given .1 in
     let a = c .before .before .before .before .before .before .args in
     let refused = header-refused (a .context) (a .front) (a .confounder ++ a .body .now) (sizes (c .before .before .before .before .before .before) .0) (sym (c .before .before .before .before .sealed-in .ensures) ∙ told) in
-    (unwrapped-refused (c .before .sealing-status .ensures ∙ ap Spec.sealingStatus told) refused (c .stopped-unwrapped .ensures), buffer-refused Spec.plain _ _ refused)
+    (ap Spec.unwrappedAnswer (sym (same-refusal (c .before .sealing-status .ensures ∙ ap Spec.sealingStatus told) (c .by .ensures) refused)), buffer-refused Spec.plain _ _ refused)
 
 returns-2 : tie.Need-returns-2
 returns-2 c =
     let told = c .before .before .enum-told2 .given .1 in
     let a = c .before .before .before .before .before .before .before .before .before .before .args in
     let refused = number-refused (a .context) (a .front) (a .confounder ++ a .body .now) (sizes (c .before .before .before .before .before .before .before .before .before .before) .0) (is-sealed (c .before .before .before .before .before)) (sym (c .before .before .before .before .number-in .ensures) ∙ told) in
-    (unwrapped-refused (c .before .sequence-status .ensures ∙ ap sequenceStatus told) refused (c .stopped-unwrapped2 .ensures), buffer-refused Spec.plain _ _ refused)
+    (ap Spec.unwrappedAnswer (sym (same-refusal (c .before .sequence-status .ensures ∙ ap sequenceStatus told) (c .by2 .ensures) refused)), buffer-refused Spec.plain _ _ refused)
 
 returns-3 : tie.Need-returns-3
 returns-3 c =
-    let told = c .before .before .before .before .before .enum-told4 .given .1 in
+    let told = c .by3 .ensures in
     let a = c .before .before .before .before .before .before .before .before .before .before .before .before .before .before .before .before .before .before .before .before .before .before .before .args in
     let text = a .confounder ++ a .body .now in
     let size = sizes (c .before .before .before .before .before .before .before .before .before .before .before .before .before .before .before .before .before .before .before .before .before .before .before) .0 in
@@ -56,7 +56,7 @@ returns-3 c =
     let number = is-number (c .before .before .before .before .before .before .before .before .before .before .before .before .before .before) in
     let out = c .before .before .before .before .before .before .before .before .before .before .before .before .under-seal .ensures in
     let refused = text-refused (a .context) (a .front) text size sealed number out (verified-is (c .before .before .before .before .before .before .before)) told in (
-      unwrapped-refused told refused (c .stopped-unwrapped3 .ensures),
+      ap Spec.unwrappedAnswer (sym refused),
       text-restored (a .context) (a .front) text size sealed number out (verified-is (c .before .before .before .before .before .before .before)) told (c .before .before .before .under-seal2 .ensures),
     )
 
@@ -75,4 +75,4 @@ returns-4 c =
     )
 
 pub open-parts-spec : {M : Type 1} → statement M
-open-parts-spec = tie.close (tie.spec (λ c κs. search needs) (λ c. search needs) (λ c. search needs) (λ c κs. search needs) (λ c κs. search needs) returns (λ c κs. search needs) (λ c. search needs) (λ c. search needs) (λ c κs. search needs) (λ c κs. search needs) returns-2 (λ c κs. search needs) (λ c κs. search needs) (λ c κs. search needs) (λ c. search needs) (λ c. search needs) (λ c κs. search needs) (λ c κs. search needs) (λ c. search needs) returns-3 (λ c. search needs) (λ c. search needs) returns-4)
+open-parts-spec = tie.close (tie.spec (λ c κs. search needs) (λ c. search needs) (λ c. search needs) (λ c κs. search needs) (λ c κs. is-refused (c .sealing-status .ensures ∙ ap Spec.sealingStatus (c .before .enum-told .given .1))) returns (λ c κs. search needs) (λ c. search needs) (λ c. search needs) (λ c κs. search needs) (λ c κs. is-refused (c .sequence-status .ensures ∙ ap sequenceStatus (c .before .enum-told2 .given .1))) returns-2 (λ c κs. search needs) (λ c κs. search needs) (λ c κs. search needs) (λ c. search needs) (λ c. search needs) (λ c κs. search needs) (λ c κs. is-refused (c .before .before .before .before .enum-told4 .given .1)) (λ c. search needs) returns-3 (λ c. search needs) (λ c. search needs) returns-4)

@@ -1,14 +1,14 @@
 -- The refusals of the length and the region, in their order, or the region opened; and from that, that opening succeeds exactly on
 -- what the rule writes.
 -- where both have been passed
-use mathlib.Core.Path.{_≡_, sym, _∙_}
+use mathlib.Core.Path.{_≡_, sym, ap, _∙_}
 use Prim.Native.Nat.{_+_, _-_, _≤_}
 use lib.ListN.{length, length-take, length-drop}
 use borrow.Author.Tests.{leb-true}
 use Rattle.primitives.specs.Octets.{Octets}
 use Rattle.tokens.specs.Limits.{region}
 use Rattle.tokens.specs.Wrap as Spec
-use Rattle.tokens.proofs.Steps.{goes-on, stops, unwrapped-refused, buffer-refused, test-held, within-bounds}
+use Rattle.tokens.proofs.Steps.{goes-on, stops, is-refused, buffer-refused, test-held, within-bounds}
 use Rattle.tokens.proofs.wrap.Exactly.{exact-clauses}
 use Rattle.tokens.proofs.wrap.Regions.{opened-answer, opened-buffer}
 use borrow.Author.Needs.{needs}
@@ -34,19 +34,19 @@ passed c =
 returns : tie.Need-returns
 unfolding Spec.wrapOpening
 returns c =
-    let told = c .before .enum-told2 .given .1 in
+    let told = c .by .ensures in
     let a = c .before .before .before .before .before .args in
     let refused = stops _ _ _ (c .before .before .before .length .ensures) told in
-    exact-clauses (a .context) (a .buf .now) (a .start) (a .len) (bytes (c .before .before .before .before)) (unwrapped-refused told refused (c .stopped-unwrapped .ensures)) (buffer-refused Spec.plain _ _ refused)
+    exact-clauses (a .context) (a .buf .now) (a .start) (a .len) (bytes (c .before .before .before .before)) (ap Spec.unwrappedAnswer (sym refused)) (buffer-refused Spec.plain _ _ refused)
 
 returns-2 : tie.Need-returns-2
 unfolding Spec.wrapOpening
 returns-2 c =
-    let told = c .before .enum-told4 .given .1 in
+    let told = c .by2 .ensures in
     let first = c .before .before .before .before in
     let a = first .before .before .before .before .args in
     let refused = goes-on _ _ _ (first .before .before .length .ensures) (first .enum-told .given .1) ∙ stops _ _ _ (c .before .before .before .region .ensures) told in
-    exact-clauses (a .context) (a .buf .now) (a .start) (a .len) (bytes (first .before .before .before)) (unwrapped-refused told refused (c .stopped-unwrapped2 .ensures)) (buffer-refused Spec.plain _ _ refused)
+    exact-clauses (a .context) (a .buf .now) (a .start) (a .len) (bytes (first .before .before .before)) (ap Spec.unwrappedAnswer (sym refused)) (buffer-refused Spec.plain _ _ refused)
 
 add-end : tie.Need-add-end
 add-end c = omega (arith, inside c)
@@ -68,4 +68,4 @@ returns-3 c =
     (rw (passed second) (opened-buffer (a .context) (a .buf .now) (a .start) (a .len) (inside second) (sized (second .before .before .before)) k part (c .before .before .open-token .ensures .1)))
 
 pub wrap-open-spec : {M : Type 1} → statement M
-wrap-open-spec = tie.close (tie.spec (λ c. search needs) (λ c κs. search needs) (λ c. search needs) (λ c. search needs) (λ c κs. search needs) returns (λ c κs. search needs) (λ c. search needs) (λ c. search needs) (λ c κs. search needs) returns-2 add-end (λ c. search needs) (λ c. search needs) part-open-token-end open-token-requires (λ c. search needs) returns-3)
+wrap-open-spec = tie.close (tie.spec (λ c. search needs) (λ c κs. search needs) (λ c. search needs) (λ c. search needs) (λ c κs. is-refused (c .enum-told2 .given .1)) returns (λ c κs. search needs) (λ c. search needs) (λ c. search needs) (λ c κs. is-refused (c .enum-told4 .given .1)) returns-2 add-end (λ c. search needs) (λ c. search needs) part-open-token-end open-token-requires (λ c. search needs) returns-3)

@@ -1,13 +1,13 @@
 -- The refusals of the length and the region, in their order, or the region written.
-use mathlib.Core.Path.{_≡_, sym, _∙_}
+use mathlib.Core.Path.{_≡_, sym, _∙_, ap}
 use Prim.Native.Nat.{_+_, _-_, _≤_}
 use lib.ListN.{length, length-take, length-drop}
 use borrow.Author.Tests.{leb-true}
-use Rattle.tokens.specs.Answer.{done}
+use Rattle.tokens.specs.Answer.{done, extentAnswer}
 use Rattle.tokens.specs.Limits.{region}
 use Rattle.tokens.specs.Message.{allOctets}
 use Rattle.tokens.specs.Wrap as Spec
-use Rattle.tokens.proofs.Steps.{goes-on, stops, extent-refused, buffer-refused, test-held, within-bounds}
+use Rattle.tokens.proofs.Steps.{goes-on, stops, is-refused, buffer-refused, test-held, within-bounds}
 use Rattle.tokens.proofs.wrap.Regions.{written-length, written-buffer}
 use borrow.Author.Needs.{needs}
 use native.Mathlib.Omega.{arith}
@@ -26,9 +26,9 @@ eight c = search needs
 returns : tie.Need-returns
 unfolding Spec.wrapWriting
 returns c =
-    let told = c .before .enum-told2 .given .1 in
+    let told = c .by .ensures in
     let refused = stops _ _ _ (c .before .before .before .length .ensures) told in
-    (extent-refused told length refused (c .stopped-extent .ensures), buffer-refused allOctets _ _ refused)
+    (ap (extentAnswer length) (sym refused), buffer-refused allOctets _ _ refused)
 
 add-total : tie.Need-add-total
 add-total c = omega (arith, sized c)
@@ -36,10 +36,10 @@ add-total c = omega (arith, sized c)
 returns-2 : tie.Need-returns-2
 unfolding Spec.wrapWriting
 returns-2 c =
-    let told = c .before .enum-told4 .given .1 in
+    let told = c .by2 .ensures in
     let first = c .before .before .before .before in
     let refused = goes-on _ _ _ (first .before .before .length .ensures) (first .enum-told .given .1) ∙ stops _ _ _ (c .before .before .before .region .ensures) told in
-    (extent-refused told length refused (c .stopped-extent2 .ensures), buffer-refused allOctets _ _ refused)
+    (ap (extentAnswer length) (sym refused), buffer-refused allOctets _ _ refused)
 
 add-end : tie.Need-add-end
 add-end c = omega (arith, inside c)
@@ -67,4 +67,4 @@ returns-3 c =
     )
 
 pub wrap-write-spec : {M : Type 1} → statement M
-wrap-write-spec = tie.close (tie.spec (λ c κs. search needs) (λ c. search needs) (λ c. search needs) (λ c κs. search needs) returns add-total (λ c κs. search needs) (λ c. search needs) (λ c. search needs) (λ c κs. search needs) returns-2 add-end (λ c. search needs) (λ c. search needs) part-write-token-end write-token-requires (λ c. search needs) returns-3)
+wrap-write-spec = tie.close (tie.spec (λ c κs. search needs) (λ c. search needs) (λ c. search needs) (λ c κs. is-refused (c .enum-told2 .given .1)) returns add-total (λ c κs. search needs) (λ c. search needs) (λ c. search needs) (λ c κs. is-refused (c .enum-told4 .given .1)) returns-2 add-end (λ c. search needs) (λ c. search needs) part-write-token-end write-token-requires (λ c. search needs) returns-3)

@@ -8,8 +8,8 @@ mod window;
 pub use frames::{framed_wrap_lead, FRAMED};
 pub use tokens::{context, mic_read, mic_write, wrap_open, wrap_write, Flags, TokenCalls, TOKENS};
 pub use window::{
-    receive_mic, receive_mic_in_place, receive_wrap, receive_wrap_in_place, window_bill,
-    window_missing, window_new,
+    receive_mic, receive_wrap, window_bill, window_missing, window_new, ReceiveCalls, RECEIVE,
+    RECEIVE_FRAMED,
 };
 
 use rc4hmac::raw;

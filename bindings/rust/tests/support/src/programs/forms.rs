@@ -1,29 +1,39 @@
 //! The two forms of tokens, without the frame and in it: the calls of the library,
 //! each compared with the reference implementation's.
 
-use reference::{frame_outcomes, lead, Outcome, Reading, TokenTerms, Wrap, FRONT, MIC};
+use reference::{frame_outcomes, lead, Outcome, Reading, Receipt, TokenTerms, Words, Wrap};
+use reference::{FRONT, MIC};
 
-use super::{Program, FRAMED_REFERENCE, REFERENCE};
-use crate::calls::{self, TokenCalls};
+use super::{Program, Receiver, FRAMED_RECEIVER, FRAMED_REFERENCE, RECEIVER, REFERENCE};
+use crate::calls::{self, ReceiveCalls, TokenCalls};
 use crate::MustBe;
 
 /// The raw functions, what they must answer and leave, and what stands before a
 /// token of some length.
 pub struct Form {
+    pub name: &'static str,
     pub calls: TokenCalls,
     pub expected: Program,
+    pub receive: ReceiveCalls,
+    pub expected_receipts: Receiver,
     lead: fn(usize) -> Vec<u8>,
 }
 
 pub static TOKENS: Form = Form {
+    name: "without the frame",
     calls: calls::TOKENS,
     expected: REFERENCE,
+    receive: calls::RECEIVE,
+    expected_receipts: RECEIVER,
     lead: |_| Vec::new(),
 };
 
 pub static FRAMED: Form = Form {
+    name: "in the frame",
     calls: calls::FRAMED,
     expected: FRAMED_REFERENCE,
+    receive: calls::RECEIVE_FRAMED,
+    expected_receipts: FRAMED_RECEIVER,
     lead,
 };
 
@@ -121,5 +131,37 @@ impl Form {
         let what = (terms.name(), buf.len(), start, length);
         reading.must_be(&expected, what);
         reading
+    }
+    #[track_caller]
+    pub fn receive_wrap(
+        &self,
+        words: Words,
+        terms: &TokenTerms,
+        buf: &[u8],
+        start: usize,
+        length: usize,
+    ) -> Receipt {
+        let receipt = self.receive.wrap(words, terms, buf, start, length);
+        let expected = (self.expected_receipts.wrap)(words, terms, buf, start, length);
+        let what = (self.name, terms.name(), words, buf.len(), start, length);
+        receipt.must_be(&expected, what);
+        receipt
+    }
+
+    #[track_caller]
+    pub fn receive_mic(
+        &self,
+        words: Words,
+        terms: &TokenTerms,
+        data: &[u8],
+        buf: &[u8],
+        start: usize,
+        length: usize,
+    ) -> Receipt {
+        let receipt = self.receive.mic(words, terms, data, buf, start, length);
+        let expected = (self.expected_receipts.mic)(words, terms, data, buf, start, length);
+        let what = (self.name, terms.name(), words, data.len(), start, length);
+        receipt.must_be(&expected, what);
+        receipt
     }
 }

@@ -5,7 +5,8 @@ mod forms;
 
 pub use forms::{framed_wrap_lead, Form, FORMS, FRAMED, TOKENS};
 
-use reference::{frame_outcomes, token_outcomes, Outcome, Reading, TokenTerms, Wrap};
+use reference::{frame_outcomes, receive_outcomes, token_outcomes};
+use reference::{Outcome, Reading, Receipt, TokenTerms, Words, Wrap};
 
 use crate::calls;
 
@@ -15,6 +16,25 @@ pub struct Program {
     pub wrap_write: fn(&TokenTerms, &Wrap, &[u8], usize, usize) -> Outcome,
     pub wrap_open: fn(&TokenTerms, &[u8], usize, usize) -> Reading,
 }
+
+pub type ReceivedWrap = fn(Words, &TokenTerms, &[u8], usize, usize) -> Receipt;
+pub type ReceivedMic = fn(Words, &TokenTerms, &[u8], &[u8], usize, usize) -> Receipt;
+
+/// The calls that open or read a token and bill it.
+pub struct Receiver {
+    pub wrap: ReceivedWrap,
+    pub mic: ReceivedMic,
+}
+
+pub const RECEIVER: Receiver = Receiver {
+    wrap: receive_outcomes::receive_wrap,
+    mic: receive_outcomes::receive_mic,
+};
+
+pub const FRAMED_RECEIVER: Receiver = Receiver {
+    wrap: receive_outcomes::receive_framed_wrap,
+    mic: receive_outcomes::receive_framed_mic,
+};
 
 pub const REFERENCE: Program = Program {
     mic_write: token_outcomes::mic_write,

@@ -1,7 +1,7 @@
 -- Each of the two hashes has absorbed the key's block under its pad.
 use mathlib.Core.Path.{ap, ap₂, _∙_}
 use Rattle.primitives.specs.Hash as Hash
-use Rattle.primitives.specs.Hmac.{begun, xorPad}
+use Rattle.primitives.specs.Hmac.{xorPad, afterKey, begun}
 use Rattle.primitives.specs.declared.hash.Algorithm.the-variants.{Md5 as is-md5}
 use Rattle.primitives.specs.declared.hash.Hash.{Hash as State}
 use Rattle.primitives.specs.declared.hmac.Hmac.{Hmac}
@@ -10,7 +10,7 @@ use Rattle.primitives.proofs.hmac.Hmac.new.Statement.{statement}
 use Rattle.primitives.proofs.hmac.Hmac.new.Tie as tie
 
 returns : tie.Need-returns
-unfolding begun
+unfolding afterKey begun
 returns c =
     let x = c .before .before in
     let made : State → State → Hmac = λ i o. record { inner = i; outer = o } in

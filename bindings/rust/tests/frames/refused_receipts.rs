@@ -7,7 +7,10 @@ use reference::clerk::{IN_ORDER, LATE};
 use reference::{frame, frame_with, long_form, Receipt, TokenTerms, Words, Wrap, PAD};
 use support::calls::{context, window_bill};
 use support::programs::FRAMED;
-use support::{fault_sets, first, must_be_octets, AllTerms, Faults, Inputs, MustBe, RandomWrap};
+use support::{
+    fault_sets, first, must_be_octets, refused_mic_tokens, AllTerms, Faults, Inputs, MustBe,
+    RandomWrap,
+};
 
 /// The refusal number, the buffer, the start and the length.
 type Case = (u32, Vec<u8>, usize, usize);
@@ -127,27 +130,13 @@ fn refused_wraps(inputs: &mut Inputs, terms: &TokenTerms, wrap: &Wrap) -> Vec<Ca
 /// Of tokens over the data "data".
 fn refused_mics(inputs: &mut Inputs, terms: &TokenTerms, sequence: u32) -> Vec<Case> {
     let token = terms.mic(sequence, b"data");
-    let changed = |at: usize| {
-        let mut token = token.clone();
-        token[at] ^= 0x04;
-        token
-    };
-    let (export, acceptor) = (!terms.export, !terms.acceptor);
-    let tokens = [
+    let lengths = [
         (1, vec![]),
         (1, token[..23].to_vec()),
         (1, [&token[..], &[0]].concat()),
-        (4, changed(0)),
-        (4, changed(4)),
-        (5, changed(15)),
-        (5, changed(17)),
-        (5, TokenTerms { export, ..*terms }.mic(sequence, b"data")),
-        (5, TokenTerms { acceptor, ..*terms }.mic(sequence, b"data")),
-        (6, terms.mic(sequence, b"datA")),
-        (6, terms.mic(sequence, b"")),
-        (6, terms.mic_with(sequence, &inputs.array())),
     ];
-    let framed = (tokens.into_iter())
+    let tokens = refused_mic_tokens(inputs, terms, sequence);
+    let framed = (lengths.into_iter().chain(tokens))
         .map(|(number, token)| (number, frame(&token)))
         .chain(no_frames(&token).into_iter().map(|framed| (9, framed)))
         .collect();

@@ -5,7 +5,7 @@ use rc4hmac::{Refusal, Status, Window};
 use reference::clerk::{IN_ORDER, LATE};
 use reference::{Receipt, TokenTerms, Wrap, PAD};
 use support::calls::{self, context};
-use support::{fault_sets, first, AllTerms, Inputs, MustBe, RandomWrap};
+use support::{fault_sets, first, refused_mic_tokens, AllTerms, Inputs, MustBe, RandomWrap};
 
 /// The refusal number, the buffer, the start and the length.
 type Case = (u32, Vec<u8>, usize, usize);
@@ -69,12 +69,6 @@ fn refused_wraps(
 /// Of tokens over the data "data".
 fn refused_mics(inputs: &mut Inputs, terms: &TokenTerms, sequence: u32) -> Vec<Case> {
     let token = terms.mic(sequence, b"data");
-    let changed = |at: usize| {
-        let mut token = token.clone();
-        token[at] ^= 0x04;
-        token
-    };
-    let (export, acceptor) = (!terms.export, !terms.acceptor);
     let regions = [
         (1, 0, 23),
         (1, 0, 25),
@@ -83,19 +77,8 @@ fn refused_mics(inputs: &mut Inputs, terms: &TokenTerms, sequence: u32) -> Vec<C
         (2, 25, 24),
         (2, usize::MAX - 23, 24),
     ];
-    let tokens = [
-        (4, changed(0)),
-        (4, changed(4)),
-        (5, changed(15)),
-        (5, changed(17)),
-        (5, TokenTerms { export, ..*terms }.mic(sequence, b"data")),
-        (5, TokenTerms { acceptor, ..*terms }.mic(sequence, b"data")),
-        (6, terms.mic(sequence, b"datA")),
-        (6, terms.mic(sequence, b"")),
-        (6, terms.mic_with(sequence, &inputs.array())),
-    ];
     let regions = regions.map(|(number, start, len)| (number, token.clone(), start, len));
-    let tokens = tokens.map(|(number, token)| {
+    let tokens = refused_mic_tokens(inputs, terms, sequence).map(|(number, token)| {
         let (buf, start) = inputs.around(&token);
         (number, buf, start, 24)
     });

@@ -3,6 +3,8 @@
 
 use reference::{TokenTerms, Wrap, PAD};
 
+use crate::Inputs;
+
 /// Every set of `N` faults, each there or not.
 pub fn fault_sets<const N: usize>() -> impl Iterator<Item = [bool; N]> {
     (0..1 << N).map(|set: u32| std::array::from_fn(|fault| set >> fault & 1 == 1))
@@ -68,4 +70,30 @@ impl Faults {
         token[7] ^= u8::from(self.header);
         token
     }
+}
+
+/// MIC tokens over the data "data" that are refused, each with its number.
+pub fn refused_mic_tokens(
+    inputs: &mut Inputs,
+    terms: &TokenTerms,
+    sequence: u32,
+) -> [(u32, Vec<u8>); 9] {
+    let token = terms.mic(sequence, b"data");
+    let changed = |at: usize| {
+        let mut token = token.clone();
+        token[at] ^= 0x04;
+        token
+    };
+    let (export, acceptor) = (!terms.export, !terms.acceptor);
+    [
+        (4, changed(0)),
+        (4, changed(4)),
+        (5, changed(15)),
+        (5, changed(17)),
+        (5, TokenTerms { export, ..*terms }.mic(sequence, b"data")),
+        (5, TokenTerms { acceptor, ..*terms }.mic(sequence, b"data")),
+        (6, terms.mic(sequence, b"datA")),
+        (6, terms.mic(sequence, b"")),
+        (6, terms.mic_with(sequence, &inputs.array())),
+    ]
 }

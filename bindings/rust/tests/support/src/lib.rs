@@ -13,7 +13,7 @@ mod random_terms;
 mod window_inputs;
 
 pub use assertions::{must_be_octets, MustBe};
-pub use faults::{fault_sets, first, Faults};
+pub use faults::{fault_sets, first, refused_mic_tokens, Faults};
 pub use inputs::{counting, Inputs, OVER_MESSAGE};
 pub use random_terms::{AllTerms, RandomWrap};
 pub use window_inputs::HIGH;

@@ -1,4 +1,4 @@
--- A capture: that there is one answer for the octets that are held, and that a frame at their front is told apart from what follows it.
+-- A capture: there is one answer for the octets that are held, and a frame at their front is found, whatever follows it.
 use mathlib.Core.Path.{_≡_, refl, ap}
 use mathlib.Core.Bool.{Bool, true, false}
 use mathlib.Core.List.{List, _++_}

@@ -53,7 +53,7 @@ front-frame = Fronts.front-frame
 pub frame-length : (token : List ℕ) → length (frame token) ≡ leadLength (length token) + length token
 frame-length = Frames.frame-length
 
--- a frame is told apart from whatever follows it in a capture
+-- a frame at the front of a capture is found with its length, whatever follows it
 pub frame-next : (token rest : List ℕ) (last : Bool) (r : Next) → NextIs (frame token ++ rest) last r → r ≡ next.Frame (length (frame token))
 frame-next = Captures.frame-next
 

@@ -1,5 +1,5 @@
--- A session through the C interface: four numbers that `rc4hmac_window_new` makes, and calls of `rc4hmac_window_bill`,
--- `rc4hmac_receive_wrap` and `rc4hmac_receive_mic` with them, in any order.
+-- A session through the C interface: four numbers that `rc4hmac_window_new` makes, and calls of `rc4hmac_window_bill` and of the four that
+-- receive tokens (`rc4hmac_receive_wrap`, `_mic`, `_framed_wrap`, `_framed_mic`) with them, in any order.
 use mathlib.Core.Path.{_≡_}
 use mathlib.Core.List.{List, [], _∷_}
 use Prim.Native.Nat.{ℕ}

@@ -13,7 +13,7 @@ import os
 import re
 
 WORD = r"[A-Za-z_][\w'′]*(?:-[A-Za-z0-9_'′]+)*"
-DECLARED = re.compile(r"^\s*(?:(?:abbrev|unfoldable|pub|ruleset)\s+)*(" + WORD + r")(?=\s*(?::|\())")
+DECLARED = re.compile(r"^\s*(?:(?:(?:abbrev|unfoldable|pub|ruleset)\s+)*(" + WORD + r")(?=\s*:)|(?:(?:abbrev|unfoldable|pub)\s+)+(" + WORD + r")(?=\s*\())")
 # a lemma that would have its definition's name, and a field
 CHOSEN = {
     name: snake + "_lem"
@@ -48,14 +48,14 @@ def own_name(name):
 
 
 def goal_file(path):
-    return os.path.basename(path) in ("Proof.antt", "Answers.antt", "Invariants.antt")
+    return os.path.basename(path) == "Proof.antt"
 
 
 def declared(path):
     for line in open(path, encoding="utf-8"):
         m = DECLARED.match(line)
         if m:
-            yield m.group(1), line
+            yield m.group(1) or m.group(2), line
 
 
 def renamed(text, names):

@@ -1,5 +1,5 @@
 -- The cases of the rules, one for each status: a number has exactly the status of its case.
-use Rattle.std.proofs.Common.{◌≡◌, ℕ, ◌+◌, ◌-◌, ◌<◌, ◌≤◌, Bool, true, false, cond, eqb, ltb, leb, refl, ◌∙◌, arith, ltb-false, ltb-true, le-ltb, lt_ltb, eq_eqb, ne_eqb, eqb-true, le_leb, leb-false, leb-true}
+use Rattle.std.proofs.Common.{◌≡◌, ℕ, ◌+◌, ◌-◌, ◌<◌, ◌≤◌, Bool, true, false, cond, eqb, ltb, leb, refl, ◌∙◌, arith, ltb-false, ltb-true, le-ltb, lt-ltb, eq-eqb, ne_eqb, eqb-true, le-leb, leb-false, leb-true}
 use borrow.Author.Tests.{eqb-false, lt-leb}
 use Rattle.billing.specs.Status.{outside_from, late_most, status_at}
 use Rattle.billing.specs.declared.status.Status.{Status}
@@ -37,11 +37,11 @@ module _ (next : ℕ) (billed : Bool) (d : ℕ) where
   -- the status of a case
   pub status_of : {s : Status} → Case next billed d s → status_at next billed d ≡ s
   unfolding status_at
-  status_of (outside h) = rw (le_leb outside_from d h)
-  status_of (in_order h e) = rw (lt-leb outside_from d h, eq_eqb d next e)
-  status_of (gap h g) = rw (lt-leb outside_from d h, ne_eqb d next (omega arith), lt_ltb next d g)
-  status_of (late h g l e) = rw (lt-leb outside_from d h, ne_eqb d next (omega arith), le-ltb next d (omega arith), le_leb (next - d) late_most (omega arith), e)
-  status_of (duplicate h g l e) = rw (lt-leb outside_from d h, ne_eqb d next (omega arith), le-ltb next d (omega arith), le_leb (next - d) late_most (omega arith), e)
+  status_of (outside h) = rw (le-leb outside_from d h)
+  status_of (in_order h e) = rw (lt-leb outside_from d h, eq-eqb d next e)
+  status_of (gap h g) = rw (lt-leb outside_from d h, ne_eqb d next (omega arith), lt-ltb next d g)
+  status_of (late h g l e) = rw (lt-leb outside_from d h, ne_eqb d next (omega arith), le-ltb next d (omega arith), le-leb (next - d) late_most (omega arith), e)
+  status_of (duplicate h g l e) = rw (lt-leb outside_from d h, ne_eqb d next (omega arith), le-ltb next d (omega arith), le-leb (next - d) late_most (omega arith), e)
   status_of (old h g) = rw (lt-leb outside_from d h, ne_eqb d next (omega arith), le-ltb next d (omega arith), lt-leb (next - d) late_most (omega arith))
 
 -- whether a number was billed is looked at only where it can be late

@@ -1,5 +1,5 @@
 -- The marks of a window: the binary digits of a number, one set and all moved up, and how many are set.
-use Rattle.std.proofs.Common.{◌≡◌, ℕ, zero, suc, ◌+◌, ◌-◌, ◌*◌, ◌/◌, ◌%◌, ◌^◌, ◌<◌, ◌≤◌, max, Bool, true, false, cond, eqb, ltb, ◌⊎◌, sym, refl, ap, ◌∙◌, inl, inr, mod-lt, mul_assoc, one-mul, arith, pow_pos, pow-add, shr-shr, ltb-false, ltb-true, lt_ltb}
+use Rattle.std.proofs.Common.{◌≡◌, ℕ, zero, suc, ◌+◌, ◌-◌, ◌*◌, ◌/◌, ◌%◌, ◌^◌, ◌<◌, ◌≤◌, max, Bool, true, false, cond, eqb, ltb, ◌⊎◌, sym, refl, ap, ◌∙◌, inl, inr, mod-lt, mul_assoc, one-mul, arith, pow_pos, pow-add, shr-shr, ltb-false, ltb-true, lt-ltb}
 use native.Mathlib.Nat.{div-eq_of_lt}
 use lib.Arith.{digits_mod}
 use lib.Bits.{bit_or, or_step, or_shr, shifted_even}
@@ -109,7 +109,7 @@ shifted_below seen by k h g l = at (ltb by 64)
 pub shifted_above : (seen by k : ℕ) → 0 < by → by ≤ k → k < 64 → is_marked (shifted seen by) k ≡ is_marked seen (k - by)
 unfolding shifted
 shifted_above seen by k h g l =
-    rw (lt_ltb by 64 (omega arith))
+    rw (lt-ltb by 64 (omega arith))
     (filled_other (seen * 2 ^ by % 2 ^ 64) 0 k (omega arith)
     ∙ mark_is (seen * 2 ^ by % 2 ^ 64) k {b = digit seen (k - by)} (kept_below (seen * 2 ^ by) 64 k l ∙ moved_above seen by k g)
     ∙ sym (mark_is seen (k - by) refl))

@@ -1,5 +1,5 @@
 -- Members of lists of numbers, their distances, and the next expected distance.
-use Rattle.std.proofs.Common.{◌≡◌, ℕ, ◌+◌, ◌<◌, ◌≤◌, max, Bool, true, false, eqb, List, [], ◌∷◌, sym, refl, ap, ◌∙◌, arith, eq_eqb, ne_eqb, eqb-true}
+use Rattle.std.proofs.Common.{◌≡◌, ℕ, ◌+◌, ◌<◌, ◌≤◌, max, Bool, true, false, eqb, List, [], ◌∷◌, sym, refl, ap, ◌∙◌, arith, eq-eqb, ne_eqb, eqb-true}
 use borrow.Author.Tests.{eqb-false}
 use Rattle.tokens.specs.Token.{sequence_numbers}
 use Rattle.billing.specs.Clerk.{member, distances, next_expected}
@@ -8,7 +8,7 @@ use Rattle.billing.specs.Status.{distance}
 
 pub member_first : (n m : ℕ) (ms : List ℕ) → n ≡ m → member n (m ∷ ms) ≡ true
 unfolding member
-member_first n m ms e = rw (eq_eqb n m e)
+member_first n m ms e = rw (eq-eqb n m e)
 
 pub member_rest : (n m : ℕ) (ms : List ℕ) → (n ≡ m → ⊥) → member n (m ∷ ms) ≡ member n ms
 unfolding member

@@ -1,5 +1,7 @@
 // The receive window of a session, by which each sequence number is billed once, and tokens received into it. Every public function
 // takes any window and any input.
+#![tactic(auto)]
+
 pub mod receive;
 pub mod status;
 pub mod window;

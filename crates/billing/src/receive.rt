@@ -17,7 +17,7 @@ use tokens::context::Context;
 use tokens::{mic, wrap};
 
 // The status of a received token's number. A refused token has none.
-#[derive(Drop)]
+#[derive(Clone, Copy)]
 pub enum TokenStatus {
     None,
     Of(Status),
@@ -46,21 +46,21 @@ impl TokenStatus {
 }
 
 // The status of a received token, and the window after it.
-#[derive(Drop)]
+#[derive(Clone, Copy)]
 pub struct Received {
     pub status: TokenStatus,
     pub window: Window,
 }
 
 // What a Wrap token holds, and what came of its number.
-#[derive(Drop)]
+#[derive(Clone, Copy)]
 pub struct ReceivedWrap {
     pub token: Unwrapped,
     pub received: Received,
 }
 
 // The sequence number of a MIC token, and what came of it.
-#[derive(Drop)]
+#[derive(Clone, Copy)]
 pub struct ReceivedMic {
     pub token: Sequence,
     pub received: Received,

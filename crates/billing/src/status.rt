@@ -3,7 +3,7 @@ ghost use Rattle.std.specs.Prelude.{◌≡◌};
 ghost use Rattle.billing.specs.Status as Spec;
 
 // Beside each, its name in RFC 2743, section 1.2.3, which has none for the last.
-#[derive(Drop)]
+#[derive(Clone, Copy)]
 pub enum Status {
     InOrder, // GSS_S_COMPLETE
     Gap, // GSS_S_GAP_TOKEN

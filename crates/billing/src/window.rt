@@ -13,7 +13,7 @@ const MARKS: u32 = 64;
 
 // The session's first number, the next expected distance from it, the marks of the distances below that, and how many numbers were
 // billed. Bit k of `seen` is the mark of the distance next - 1 - k. Every value is legal.
-#[derive(Drop)]
+#[derive(Clone, Copy)]
 pub struct Window {
     pub first: u32,
     pub next: u32,
@@ -22,7 +22,7 @@ pub struct Window {
 }
 
 // The status of a number, and the window after it.
-#[derive(Drop)]
+#[derive(Clone, Copy)]
 pub struct Receipt {
     pub status: Status,
     pub window: Window,

@@ -9,7 +9,7 @@ use native.Mathlib.Numerals.{one-add}
 use lib.Dec.{eqb, ltb}
 use lib.ListN.{length, get_or, take, drop, replicate, length-append, length-drop, length-replicate, take-append-drop, drop_of_length-le, get_or-append}
 use lib.Seq.{take_at, drop_at, take_all, drop-nil, length-take-le}
-use borrow.Author.Tests.{eqb-true, eq_eqb, ltb-true, ltb-false}
+use borrow.Author.Tests.{eqb-true, eq-eqb, ltb-true, ltb-false}
 use Rattle.tokens.proofs.Steps.{both}
 use Rattle.tokens.specs.Answer.{done, require}
 use Rattle.tokens.specs.Octets.{same}
@@ -159,7 +159,7 @@ unfolding agree same
 agree_joined [] [] a b e = refl
 agree_joined [] (y ∷ ys) a b e = refl
 agree_joined (x ∷ xs) [] a b e = refl
-agree_joined (x ∷ xs) (y ∷ ys) a b e = rw (eq_eqb x y (cc)) (agree_joined xs ys a b (cc))
+agree_joined (x ∷ xs) (y ∷ ys) a b e = rw (eq-eqb x y (cc)) (agree_joined xs ys a b (cc))
 
 -- octets that begin as a frame does, and go on so
 made : (octets : List ℕ) (n : ℕ) (rest more token x : List ℕ) → octets ≡ tag ∷ (der_length n ++ rest) → n ≡ contents (length token) → rest ++ more ≡ mechanism ++ (token ++ x) → octets ++ more ≡ frame token ++ x

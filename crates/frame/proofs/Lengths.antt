@@ -9,7 +9,7 @@ use native.Mathlib.Numerals.{add-one}
 use lib.Dec.{leb, ltb}
 use lib.ListN.{length, get_or, take, drop, length-append, length-take, length-drop, drop_of_length-le}
 use lib.Seq.{take_at, take_all, drop-cons}
-use borrow.Author.Tests.{ltb-true, ltb-false, lt_ltb, le-ltb, leb-true, leb-false, le_leb, lt-leb}
+use borrow.Author.Tests.{ltb-true, ltb-false, lt-ltb, le-ltb, leb-true, leb-false, le-leb, lt-leb}
 use Rattle.primitives.specs.Octets.{Octets}
 use Rattle.tokens.proofs.Laws.{region_octets}
 use Rattle.frame.specs.Length.{count_within, octet_count, high_first, der_length, value_after, up_to, width_in, value_in, Says, ShortestForm}
@@ -91,7 +91,7 @@ unfolding value_after
 value_all n octets i h = ap (value_after n) (drop_of_length-le octets {i = i} h)
 
 pub at_most : (most n : ℕ) → n ≤ most → up_to most n ≡ Number n
-at_most most n h = rw (le_leb n most h) refl
+at_most most n h = rw (le-leb n most h) refl
 
 pub above : (most n : ℕ) → most < n → up_to most n ≡ Above
 above most n h = rw (lt-leb n most h) refl
@@ -146,7 +146,7 @@ high_value octets bytes =
 
 pub der_short : (n : ℕ) → n < 128 → der_length n ≡ n ∷ []
 unfolding der_length
-der_short n h = rw (lt_ltb n 128) refl
+der_short n h = rw (lt-ltb n 128) refl
 
 pub der_long : (n : ℕ) → 128 ≤ n → der_length n ≡ (128 + octet_count n) ∷ high_first (octet_count n) n
 unfolding der_length
@@ -174,11 +174,11 @@ digits_in octets = take (get_or octets 0 0 - 128) (drop 1 octets)
 module _ (octets : List ℕ) (short : get_or octets 0 0 < 128) where
   pub width_short : width_in octets ≡ 1
   unfolding width_in
-  width_short = rw (lt_ltb (get_or octets 0 0) 128) refl
+  width_short = rw (lt-ltb (get_or octets 0 0) 128) refl
 
   pub value_short : value_in octets ≡ get_or octets 0 0
   unfolding value_in
-  value_short = rw (lt_ltb (get_or octets 0 0) 128) refl
+  value_short = rw (lt-ltb (get_or octets 0 0) 128) refl
 
 module _ (octets : List ℕ) (long : 128 ≤ get_or octets 0 0) where
   pub width_long : width_in octets ≡ get_or octets 0 0 - 127

@@ -5,7 +5,7 @@ use Prim.Native.Nat.{ℕ, ◌+◌, ◌-◌, ◌≤◌}
 use native.Mathlib.Omega.{arith}
 use lib.ListN.{length, take, drop, length-drop}
 use lib.Seq.{take-add, drop_at, drop-drop, length-take-le}
-use borrow.Author.Tests.{leb-true, le_leb}
+use borrow.Author.Tests.{leb-true, le-leb}
 use Rattle.tokens.proofs.Steps.{require_done, done_same, then_on, then_stops, never_zero}
 use Rattle.tokens.specs.Answer.{Outcome, done, refused, status_number, status_answer, require}
 use Rattle.tokens.specs.Limits.{inside, region}
@@ -83,5 +83,5 @@ module _ (buf : List ℕ) (start n : ℕ) where
   unfolding lead_in lead_of require
   not_framed {q} e fits Holds w =
       let found : lead_in buf start n ≡ done (lead_width (region start n buf)) =
-      rw (le_leb (start + n) (length buf) fits, ((frames_exactly (region start n buf)).always_then w.token w.as_framed).0) refl in
+      rw (le-leb (start + n) (length buf) fits, ((frames_exactly (region start n buf)).always_then w.token w.as_framed).0) refl in
       never_zero q (ap (λ (o : Outcome ℕ). status_number (status_answer o)) (sym e ∙ found))

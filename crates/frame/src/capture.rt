@@ -7,7 +7,7 @@ use crate::framing::Framing;
 
 // What stands at the front of the octets that are held: a frame of so many octets; nothing that can be told without more of the
 // capture; its end; or a fault.
-#[derive(Drop)]
+#[derive(Clone, Copy)]
 pub enum Next {
     Frame(usize),
     More,

@@ -9,7 +9,7 @@ use tokens::checks;
 
 // What stands at the front of some octets: a frame, with so many octets before its token and so many in it; the beginning of a frame, of
 // which more is needed; or neither, whatever follows.
-#[derive(Drop)]
+#[derive(Clone, Copy)]
 pub enum Framing {
     Token { lead: usize, length: usize },
     Incomplete,
@@ -17,7 +17,7 @@ pub enum Framing {
 }
 
 // The octets before the token of a region that is a frame, or a refusal.
-#[derive(Drop)]
+#[derive(Clone, Copy)]
 pub struct Lead {
     pub status: Status,
     pub octets: usize,

@@ -4,7 +4,7 @@ ghost use Rattle.frame.specs.Length as Spec;
 
 // A length at the front of some octets: how many octets it has, and how many it counts, if all that it counts follows it; or how many it
 // has, if what follows is cut off; or that the octets end inside it; or that they begin no length.
-#[derive(Drop)]
+#[derive(Clone, Copy)]
 pub enum Contents {
     Counted { width: usize, value: usize },
     Cut { width: usize },
@@ -13,14 +13,14 @@ pub enum Contents {
 }
 
 // A number, or that it is above the most that is asked for.
-#[derive(Drop)]
+#[derive(Clone, Copy)]
 enum Value {
     Number(usize),
     Above,
 }
 
 // A length below 65,536: the first `width` of three octets.
-#[derive(Drop)]
+#[derive(Clone, Copy)]
 pub struct Length {
     pub width: usize,
     pub octets: [u8; 3],

@@ -13,28 +13,28 @@ use tokens::context::{Context, Sender};
 use tokens::strength::Strength;
 
 // A key, or zeros if there is none.
-#[derive(Drop)]
+#[derive(Clone, Copy)]
 pub struct KeyWord {
     pub is_right: bool,
     pub octets: [u8; 16],
 }
 
 // A confounder, or zeros if there is none.
-#[derive(Drop)]
+#[derive(Clone, Copy)]
 pub struct ConfounderWord {
     pub is_right: bool,
     pub octets: [u8; 8],
 }
 
 // A context, of zeros if it is not right.
-#[derive(Drop)]
+#[derive(Clone, Copy)]
 pub struct ContextWords {
     pub is_right: bool,
     pub context: Context,
 }
 
 // Whether a token is framed.
-#[derive(Drop)]
+#[derive(Clone, Copy)]
 pub enum FramedWord {
     Is(bool),
     Wrong,
@@ -55,7 +55,7 @@ pub fn verb(at: usize) -> Verb {
 }
 
 // The fewest words that a verb takes after it, and the most.
-#[derive(Drop)]
+#[derive(Clone, Copy)]
 struct Taken {
     least: usize,
     most: usize,

@@ -23,7 +23,7 @@ use tokens::context::Context;
 const BUFFER: usize = 131264;
 
 // How far the billing is: the window, where in the capture the next token begins, and how many were refused.
-#[derive(Drop)]
+#[derive(Clone, Copy)]
 struct Billing {
     window: Window,
     place: u64,
@@ -31,14 +31,14 @@ struct Billing {
 }
 
 // The billing after a token, and whether its line was written.
-#[derive(Drop)]
+#[derive(Clone, Copy)]
 struct Step {
     bill: Billing,
     exit: Exit,
 }
 
 // How many octets are held after more were read, and how reading ended.
-#[derive(Drop)]
+#[derive(Clone, Copy)]
 struct Refilled {
     end: usize,
     ending: Ending,

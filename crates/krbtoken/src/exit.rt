@@ -1,6 +1,6 @@
 // How a run ends.
 
-#[derive(Drop)]
+#[derive(Clone, Copy)]
 pub enum Exit {
     Done,
     Refused,

@@ -9,7 +9,7 @@ use libc::STDIN_FILENO;
 pub const BUFFER: usize = 65537;
 
 // How reading ended: with the input, with the buffer, with a fault, or with some octets, after which more may follow.
-#[derive(Drop)]
+#[derive(Clone, Copy)]
 pub enum Ending {
     Whole,
     Full,
@@ -18,14 +18,14 @@ pub enum Ending {
 }
 
 // How many octets were read, and how that ended.
-#[derive(Drop)]
+#[derive(Clone, Copy)]
 pub struct Input {
     pub count: usize,
     pub ending: Ending,
 }
 
 // How many octets of standard input were read, and whether these are all.
-#[derive(Drop)]
+#[derive(Clone, Copy)]
 pub struct StandardInput {
     pub count: usize,
     pub is_whole: bool,

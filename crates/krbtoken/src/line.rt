@@ -4,7 +4,7 @@
 const MOST: usize = 256;
 
 // The first `length` of the octets are the line so far.
-#[derive(Drop)]
+#[derive(Clone, Copy)]
 pub struct Line {
     octets: [u8; 256],
     length: usize,

@@ -1,4 +1,6 @@
 // The library on the command line: keys, checksums, encrypted messages and tokens, one at a time, and a capture of tokens billed.
+#![tactic(auto)]
+
 mod arguments;
 mod bill;
 mod exit;

@@ -19,7 +19,7 @@ const MESSAGE_AT: usize = 64;
 const BUFFER: usize = MESSAGE_AT + input::BUFFER;
 
 // What is put in a token beside its message.
-#[derive(Drop)]
+#[derive(Clone, Copy)]
 struct Parts {
     sequence: u32,
     confounder: [u8; 8],

@@ -1,5 +1,5 @@
 -- A text in parts has the HMAC of the whole.
-use Rattle.std.proofs.Common.{◌≡◌, ℕ, ◌≤◌, List, ◌++◌, length, sym, ap, ◌∙◌, le_leb}
+use Rattle.std.proofs.Common.{◌≡◌, ℕ, ◌≤◌, List, ◌++◌, length, sym, ap, ◌∙◌, le-leb}
 use Rattle.primitives.specs.Hash as Hash
 use Rattle.primitives.specs.Hash.{md5}
 use Rattle.primitives.specs.Hmac.{filled, xor_pad, key_block, hmac, after_key, begun, absorb, finished}
@@ -28,7 +28,7 @@ finished_hmac key text =
 -- a key that is no longer than a block is filled as it is
 pub short_key : (key : List ℕ) → length key ≤ 64 → filled key ≡ key_block key
 unfolding key_block
-short_key key h = rw (le_leb (length key) 64 h)
+short_key key h = rw (le-leb (length key) 64 h)
 
 -- the code from the inner hash and the outer one
 pub inner_outer : (key text : List ℕ) {digest code : List ℕ} → digest ≡ Hash.finished (Hash.absorb (after_key 0x36 key) text)

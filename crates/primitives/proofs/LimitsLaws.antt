@@ -1,5 +1,5 @@
 -- The laws of `length_status`: a length is `Done` from least to most, and nowhere else.
-use Rattle.std.proofs.Common.{◌≡◌, ℕ, ◌<◌, ◌≤◌, Bool, true, false, cond, ◌&&◌, leb, refl, arith, le_leb, leb-true}
+use Rattle.std.proofs.Common.{◌≡◌, ℕ, ◌<◌, ◌≤◌, Bool, true, false, cond, ◌&&◌, leb, refl, arith, le-leb, leb-true}
 use borrow.Author.Tests.{lt-leb}
 use Rattle.primitives.specs.Limits.{length_status}
 use Rattle.primitives.specs.declared.limits.Status.TheVariants.{Done, Length}
@@ -18,7 +18,7 @@ both_hold false b e = let z : ◌≡◌ {A = ℕ} 0 1 = cc in absurd (omega arit
 module _ (least most n : ℕ) where
   pub status_done : least ≤ n → n ≤ most → length_status least most n ≡ Done
   unfolding length_status
-  status_done low high = simp (le_leb least n low, le_leb n most high)
+  status_done low high = simp (le-leb least n low, le-leb n most high)
 
   pub status_below : n < least → length_status least most n ≡ Length
   unfolding length_status

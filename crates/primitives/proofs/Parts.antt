@@ -1,5 +1,5 @@
 -- A message in parts has the digest of the whole.
-use Rattle.std.proofs.Common.{◌≡◌, ℕ, zero, suc, ◌+◌, ◌-◌, ◌*◌, ◌/◌, ◌%◌, ◌^◌, ◌≤◌, Bool, cond, List, [], ◌∷◌, ◌++◌, length, take, drop, sym, refl, ap, ◌∙◌, ap₂, append-nil, zero-add, arith, length-append, length-drop, take-append-drop, drop_of_length-le, length-take, take_all, eq_eqb}
+use Rattle.std.proofs.Common.{◌≡◌, ℕ, zero, suc, ◌+◌, ◌-◌, ◌*◌, ◌/◌, ◌%◌, ◌^◌, ◌≤◌, Bool, cond, List, [], ◌∷◌, ◌++◌, length, take, drop, sym, refl, ap, ◌∙◌, ap₂, append-nil, zero-add, arith, length-append, length-drop, take-append-drop, drop_of_length-le, length-take, take_all, eq-eqb}
 use lib.Pow.{mod-mod-pow}
 use lib.Seq.{take-append-le, drop-append-le, paste}
 use Rattle.primitives.specs.Octets.{joined, little_endian}
@@ -54,7 +54,7 @@ module _ (g : Algorithm) (n : ℕ) (xs b : List ℕ) (whole : length xs ≡ 64 *
       let filled = absorb_fill before b held 64 (omega arith) (omega arith) in
       ap (λ (h : Hash). h.words) (absorb_append (begun g) xs b ∙ ap (absorb before) (sym (take_all 64 b (omega arith))) ∙ filled)
       ∙ ap (λ (t : Bool). cond t (compress before.algorithm before.words (paste before.block (before.count % 64) b 64)) before.words)
-      (eq_eqb (before.count % 64 + 64) 64 room)
+      (eq-eqb (before.count % 64 + 64) 64 room)
       ∙ ap₂ (λ (a : Algorithm) (l : List ℕ). compress a before.words l) (absorb_algorithm (begun g) xs)
       (ap (λ (k : ℕ). paste before.block k b 64) empty ∙ ap₂ (λ (l r : List ℕ). l ++ r) (take_all 64 b (omega arith)) (drop_of_length-le before.block {i = 0 + 64} (omega (arith, held.block_length_lem))) ∙ append-nil b)
 

@@ -7,14 +7,14 @@ use crate::{md4, md5, octets};
 use std::num::wrapping_add_u64;
 
 // Which compression a digest is made by; all else is the same for both.
-#[derive(Drop)]
+#[derive(Clone, Copy)]
 pub enum Algorithm {
     Md4,
     Md5,
 }
 
 // The words A, B, C and D.
-#[derive(Drop)]
+#[derive(Clone, Copy)]
 pub struct Words {
     pub a: u32,
     pub b: u32,
@@ -24,7 +24,7 @@ pub struct Words {
 
 // The state after some of a message: the words after its whole blocks, the octets since then at the front of the block, and
 // how many octets it has, modulo 2^64.
-#[derive(Drop)]
+#[derive(Clone, Copy)]
 pub struct Hash {
     pub algorithm: Algorithm,
     pub words: Words,

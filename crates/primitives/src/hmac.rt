@@ -5,7 +5,7 @@ ghost use Rattle.primitives.specs.Hmac as Spec;
 use crate::hash::{Algorithm, Hash};
 
 // The state after some of a text: that of the inner hash, and that of the outer one, which waits for the inner digest.
-#[derive(Drop)]
+#[derive(Clone, Copy)]
 pub struct Hmac {
     pub inner: Hash,
     pub outer: Hash,

@@ -1,5 +1,7 @@
 // MD4, MD5, HMAC-MD5 and RC4. Nothing here knows of Kerberos. `whole` has the calls on whole slices, within their limits;
 // `hash`, `hmac` and `rc4` have the states of messages and texts that come in parts, of which every value is legal.
+#![tactic(auto)]
+
 pub mod hash;
 pub mod hmac;
 pub mod limits;

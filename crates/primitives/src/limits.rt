@@ -14,7 +14,7 @@ pub const LEAST_RC4_KEY: usize = 1;
 pub const MOST_RC4_KEY: usize = 256;
 
 // Whether a call is done. A length outside the limits is all that a call of this crate can refuse.
-#[derive(Drop)]
+#[derive(Clone, Copy)]
 pub enum Status {
     Done,
     Length,

@@ -7,7 +7,7 @@ use crate::limits::Status;
 use std::num::wrapping_add_u8;
 
 // The octets S and the indices i and j.
-#[derive(Drop)]
+#[derive(Clone, Copy)]
 pub struct Rc4 {
     pub s: [u8; 256],
     pub i: u8,
@@ -15,7 +15,7 @@ pub struct Rc4 {
 }
 
 // The cipher begun from a key, or a state of zeros where the key's length is refused.
-#[derive(Drop)]
+#[derive(Clone, Copy)]
 pub struct Begun {
     pub status: Status,
     pub state: Rc4,

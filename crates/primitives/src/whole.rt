@@ -10,7 +10,7 @@ use crate::limits::Status;
 use crate::rc4::Rc4;
 
 // A digest, or sixteen zeros with a refusal.
-#[derive(Drop)]
+#[derive(Clone, Copy)]
 pub struct Digest {
     pub status: Status,
     pub octets: [u8; 16],

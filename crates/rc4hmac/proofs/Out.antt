@@ -8,10 +8,10 @@ use Rattle.tokens.specs.Answer.{unwrapped_number, unwrapped_sequence, unwrapped_
 use Rattle.tokens.specs.Wrap.{OpensExactly}
 use Rattle.tokens.specs.declared.answer.Unwrapped.{Unwrapped}
 use Rattle.tokens.specs.declared.context.Context.{Context}
-use Rattle.rc4hmac.specs.Answers.{flagNumber, UnwrappedOut}
+use Rattle.rc4hmac.specs.Answers.{flag_number, UnwrappedOut}
 use Rattle.rc4hmac.specs.Arguments.{is_yes}
 
-read_back : (b : Bool) → is_yes (flagNumber b) ≡ b
+read_back : (b : Bool) → is_yes (flag_number b) ≡ b
 read_back true = refl
 read_back false = refl
 

@@ -14,38 +14,38 @@ use Rattle.billing.proofs.Laws.{unbilled_leaves, after_fits}
 use Rattle.tokens.specs.Token.{sequence_numbers}
 use Rattle.tokens.specs.declared.answer.Sequence.{Sequence}
 use Rattle.tokens.specs.declared.answer.Sequence.TheVariants as sequence
-use Rattle.rc4hmac.specs.Answers.{windowWords, words_after}
+use Rattle.rc4hmac.specs.Answers.{window_words, words_after}
 use Rattle.rc4hmac.specs.Arguments.{window_of}
 use Rattle.rc4hmac.specs.Session.{session_words, KeepsWindow}
 
 -- a window that fits is read back from its four numbers
-read_back : (w : Window) → w.first < sequence_numbers → w.next < sequence_numbers → window_of (windowWords w) ≡ w
+read_back : (w : Window) → w.first < sequence_numbers → w.next < sequence_numbers → window_of (window_words w) ≡ w
 read_back w first_fits next_fits = ap₂ window (mod-eq_of_lt first_fits) (mod-eq_of_lt next_fits)
   where
     window : ℕ → ℕ → Window
     window first next = record { first = first; next = next; seen = w.seen; billed = w.billed }
 
 -- the window is written whether its number was billed or, being as it was, not
-written : (w : Window) (token : Sequence) → words_after (received w token) (windowWords w) ≡ windowWords (received w token).window
+written : (w : Window) (token : Sequence) → words_after (received w token) (window_words w) ≡ window_words (received w token).window
 written w (sequence.Refused refusal) = refl
 written w (sequence.Number n) = at (is_billed (step w n).status) refl
   where
-    at : (b : Bool) → is_billed (step w n).status ≡ b → cond b (windowWords (step w n).window) (windowWords w) ≡ windowWords (step w n).window
+    at : (b : Bool) → is_billed (step w n).status ≡ b → cond b (window_words (step w n).window) (window_words w) ≡ window_words (step w n).window
     at true e = refl
-    at false e = ap windowWords (sym (unbilled_leaves w n e))
+    at false e = ap window_words (sym (unbilled_leaves w n e))
 
 module _ (first : ℕ) (fits : first < sequence_numbers) where
-  session_reads : (tokens : List Sequence) → window_of (windowWords (window_after first tokens)) ≡ window_after first tokens
+  session_reads : (tokens : List Sequence) → window_of (window_words (window_after first tokens)) ≡ window_after first tokens
   session_reads tokens =
       let small = after_fits first tokens in
       read_back (window_after first tokens) (omega (arith, small.0)) (omega (arith, small.1))
 
-  words_are : (tokens : List Sequence) → session_words first tokens ≡ windowWords (window_after first tokens)
+  words_are : (tokens : List Sequence) → session_words first tokens ≡ window_words (window_after first tokens)
   unfolding session_words window_after
   words_are [] = refl
   words_are (token ∷ tokens) =
       ap (λ (words : List ℕ). words_after (received (window_of words) token) words) (words_are tokens)
-      ∙ ap (λ (w : Window). words_after (received w token) (windowWords (window_after first tokens))) (session_reads tokens)
+      ∙ ap (λ (w : Window). words_after (received w token) (window_words (window_after first tokens))) (session_reads tokens)
       ∙ written (window_after first tokens) token
 
   pub keeps_window : (tokens : List Sequence) → KeepsWindow first tokens

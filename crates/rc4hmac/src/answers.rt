@@ -1,7 +1,7 @@
 // The answers of the calls as C sees them: the number of a refusal, and the values behind pointers, zeros with a refusal.
 ghost use Rattle.std.specs.Prelude.{◌≡◌};
 ghost use Rattle.tokens.specs.Answer.{status_number};
-ghost use Rattle.rc4hmac.specs.Answers.{flagNumber, windowWords, DigestOut, ExtentOut, SequenceOut, UnwrappedOut, ReceivedOut};
+ghost use Rattle.rc4hmac.specs.Answers.{flag_number, window_words, DigestOut, ExtentOut, SequenceOut, UnwrappedOut, ReceivedOut};
 
 use billing::receive::Received;
 use billing::window::Window;
@@ -61,7 +61,7 @@ pub fn sequence_out(answer: Sequence, out: &mut u32) -> u32
 
 // Yes is 1, and no is 0.
 fn flag(yes: bool) -> u32
-    ensures { result ≡ flagNumber yes }
+    ensures { result ≡ flag_number yes }
 {
     if yes {
         return 1;
@@ -100,7 +100,7 @@ pub fn unwrapped_out(
 
 // A window goes out as four numbers.
 pub fn window_out(window: Window, out: &mut [u64; 4])
-    ensures { out.new ≡ windowWords window }
+    ensures { out.new ≡ window_words window }
 {
     *out = [
         window.first as u64,

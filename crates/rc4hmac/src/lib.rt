@@ -1,5 +1,7 @@
 // The C interface of `include/rc4hmac.h`. Each function takes numbers and lent octets, makes one call, and answers the number
 // of a refusal, 0 when done.
+#![tactic(auto)]
+
 mod algorithms;
 mod answers;
 mod arguments;

@@ -9,7 +9,7 @@ ghost use Rattle.tokens.specs.Limits.{buffer_after};
 ghost use Rattle.tokens.specs.Mic.{mic_reading, ReadsExactly};
 ghost use Rattle.tokens.specs.Wrap.{plain, wrap_opening, unwrapped_answer, OpensExactly};
 ghost use Rattle.tokens.specs.declared.answer.Sequence.TheVariants as sequence_is;
-ghost use Rattle.rc4hmac.specs.Answers.{windowWords, SequenceOut, UnwrappedOut, ReceivedOut};
+ghost use Rattle.rc4hmac.specs.Answers.{window_words, SequenceOut, UnwrappedOut, ReceivedOut};
 ghost use Rattle.rc4hmac.specs.Arguments.{is_yes, context_of, window_of};
 
 use crate::{answers, arguments};
@@ -20,7 +20,7 @@ use tokens::answer::Sequence;
 #[unsafe(no_mangle)]
 pub extern "C" fn rc4hmac_window_new(first: u32, window: &mut [u64; 4]) -> u32
     ensures answer { result ≡ 0 }
-    ensures window { window.new ≡ windowWords (new_window first) }
+    ensures window { window.new ≡ window_words (new_window first) }
 {
     answers::window_out(Window::new(first), window);
     0

@@ -1,5 +1,7 @@
 // Runs calls that are refused, and writes whole tokens, messages and checksums. `rt` compares what it writes with the file `stdout`; the
 // tests of the Rust binding compare the whole ones with the reference implementation.
+#![tactic(auto)]
+
 mod answers;
 mod messages;
 mod mic_tokens;

@@ -1,5 +1,7 @@
 // Each writer of `tokens` and of `frame` and its reader, one after the other. It is a client: what it promises is proved from their contracts and
 // the published laws alone.
+#![tactic(auto)]
+
 ghost use Rattle.std.specs.Prelude.{◌+◌};
 ghost use Rattle.frame.specs.Mic.{framed_mic_writing};
 ghost use Rattle.frame.specs.Wrap.{framed_message_at, framed_wrap_writing};

@@ -1,12 +1,14 @@
 // The sequence numbers of a session billed one after the other. It is a client of `billing`: what it promises is in the clerk's words,
 // with no window in it, and is proved from the contracts and the published laws alone.
+#![tactic(auto)]
+
 ghost use Rattle.std.specs.Prelude.{◌≡◌};
 ghost use Rattle.tally.specs.Tally.{clerk_tally};
 
 use billing::window::Window;
 
 // How many of the numbers of a session are billed, and how many of the last sixty-four are missing.
-#[derive(Drop)]
+#[derive(Clone, Copy)]
 pub struct Tally {
     pub billed: u64,
     pub missing: u32,

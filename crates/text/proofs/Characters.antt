@@ -8,7 +8,7 @@ use lib.Dec.{leb, ltb}
 use native.Mathlib.Numerals.{add-one}
 use lib.ListN.{length, get_or, take, drop, length-append, drop_of_length-le}
 use lib.Seq.{take_at, drop-cons}
-use borrow.Author.Tests.{ltb-true, ltb-false, lt_ltb, le-ltb, leb-true, le_leb, lt-leb}
+use borrow.Author.Tests.{ltb-true, ltb-false, lt-ltb, le-ltb, leb-true, le-leb, lt-leb}
 use Rattle.tokens.proofs.SameOctets.{same_true, same_self}
 use Rattle.tokens.specs.Octets.{same}
 use Rattle.text.specs.Utf8.{is_character, utf8, utf16, width, leading_bits, value_after, value, front, character_in}
@@ -18,7 +18,7 @@ use Rattle.text.specs.declared.utf8.Character.TheVariants.{Number, Wrong}
 
 pub low_character : (n : ℕ) → n < 55296 → is_character n ≡ true
 unfolding is_character
-low_character n h = rw (lt_ltb n 55296) refl
+low_character n h = rw (lt-ltb n 55296) refl
 
 pub surrogate : (n : ℕ) → 55296 ≤ n → n < 57344 → is_character n ≡ false
 unfolding is_character
@@ -26,7 +26,7 @@ surrogate n h k = rw (le-ltb n 55296, lt-leb 57344 n) refl
 
 pub high_character : (n : ℕ) → 57344 ≤ n → is_character n ≡ ltb n 1114112
 unfolding is_character
-high_character n h = rw (le-ltb n 55296 (omega arith), le_leb 57344 n) refl
+high_character n h = rw (le-ltb n 55296 (omega arith), le-leb 57344 n) refl
 
 pub character_most : (n : ℕ) → is_character n ≡ true → n < 1114112
 unfolding is_character
@@ -41,15 +41,15 @@ character_most n e = decided (ltb n 55296) (leb 57344 n) refl e
 
 pub utf8_one : (n : ℕ) → n < 128 → utf8 n ≡ n ∷ []
 unfolding utf8
-utf8_one n h = rw (lt_ltb n 128) refl
+utf8_one n h = rw (lt-ltb n 128) refl
 
 pub utf8_two : (n : ℕ) → 128 ≤ n → n < 2048 → utf8 n ≡ (192 + n / 64) ∷ (128 + n % 64) ∷ []
 unfolding utf8
-utf8_two n h k = rw (le-ltb n 128, lt_ltb n 2048) refl
+utf8_two n h k = rw (le-ltb n 128, lt-ltb n 2048) refl
 
 pub utf8_three : (n : ℕ) → 2048 ≤ n → n < 65536 → utf8 n ≡ (224 + n / 4096) ∷ (128 + n / 64 % 64) ∷ (128 + n % 64) ∷ []
 unfolding utf8
-utf8_three n h k = rw (le-ltb n 128 (omega arith), le-ltb n 2048, lt_ltb n 65536) refl
+utf8_three n h k = rw (le-ltb n 128 (omega arith), le-ltb n 2048, lt-ltb n 65536) refl
 
 pub utf8_four : (n : ℕ) → 65536 ≤ n → utf8 n ≡ (240 + n / 262144) ∷ (128 + n / 4096 % 64) ∷ (128 + n / 64 % 64) ∷ (128 + n % 64) ∷ []
 unfolding utf8
@@ -57,7 +57,7 @@ utf8_four n h = rw (le-ltb n 128 (omega arith), le-ltb n 2048 (omega arith), le-
 
 pub utf16_one : (n : ℕ) → n < 65536 → utf16 n ≡ n ∷ []
 unfolding utf16
-utf16_one n h = rw (lt_ltb n 65536) refl
+utf16_one n h = rw (lt-ltb n 65536) refl
 
 pub utf16_two : (n : ℕ) → 65536 ≤ n → utf16 n ≡ (55296 + (n - 65536) / 1024) ∷ (56320 + (n - 65536) % 1024) ∷ []
 unfolding utf16
@@ -68,15 +68,15 @@ utf16_two n h = rw (le-ltb n 65536) refl
 module _ (x : ℕ) where
   pub one_octet : x < 128 → (width x ≡ 1) × (leading_bits x ≡ x)
   unfolding width leading_bits
-  one_octet h = rw (lt_ltb x 128) (refl, refl)
+  one_octet h = rw (lt-ltb x 128) (refl, refl)
 
   pub two_octets : 128 ≤ x → x < 224 → (width x ≡ 2) × (leading_bits x ≡ x % 32)
   unfolding width leading_bits
-  two_octets h k = rw (le-ltb x 128, lt_ltb x 224) (refl, refl)
+  two_octets h k = rw (le-ltb x 128, lt-ltb x 224) (refl, refl)
 
   pub three_octets : 224 ≤ x → x < 240 → (width x ≡ 3) × (leading_bits x ≡ x % 16)
   unfolding width leading_bits
-  three_octets h k = rw (le-ltb x 128 (omega arith), le-ltb x 224, lt_ltb x 240) (refl, refl)
+  three_octets h k = rw (le-ltb x 128 (omega arith), le-ltb x 224, lt-ltb x 240) (refl, refl)
 
   pub four_octets : 240 ≤ x → (width x ≡ 4) × (leading_bits x ≡ x % 8)
   unfolding width leading_bits
@@ -139,7 +139,7 @@ unfolding character_in front
 front_back c rest e =
     let w = written c (character_most c e) in
     let size : length (utf8 c) ≤ length (utf8 c ++ rest) = rw length-append (omega arith) in
-    rw (w.first rest, take_at (utf8 c) rest (length (utf8 c)) refl, w.number, e, same_self (utf8 c), le_leb _ _ size) refl
+    rw (w.first rest, take_at (utf8 c) rest (length (utf8 c)) refl, w.number, e, same_self (utf8 c), le-leb _ _ size) refl
 
 -- ---- Each way in which the front of some octets is read
 
@@ -151,7 +151,7 @@ cut_short octets h = rw (lt-leb _ _ h) refl
 pub found : (octets : List ℕ) (w v : ℕ) → w ≡ width (get_or octets 0 0) → v ≡ value (take w octets) → w ≤ length octets
     → character_in octets ≡ cond (is_character v && same (take w octets) (utf8 v)) (Number w v) Wrong
 unfolding character_in front
-found octets w v ew ev h = rw (ev, ew, le_leb _ _ (rw ew at h)) refl
+found octets w v ew ev h = rw (ev, ew, le-leb _ _ (rw ew at h)) refl
 
 -- ---- What was read
 

@@ -8,7 +8,7 @@ use native.Mathlib.Numerals.{add-one}
 use lib.Dec.{ltb}
 use lib.ListN.{length, get_or, set, take, drop, length-append, drop_of_length-le}
 use lib.Seq.{drop-cons, take_all, take-length, take-suc-set, length-take-le, set_at}
-use borrow.Author.Tests.{ltb-true, ltb-false, lt_ltb, le-ltb, le_leb, lt-leb, eq_eqb, ne_eqb}
+use borrow.Author.Tests.{ltb-true, ltb-false, lt-ltb, le-ltb, le-leb, lt-leb, eq-eqb, ne_eqb}
 use Rattle.primitives.specs.Octets.{Octets}
 use Rattle.tokens.specs.Limits.{placed}
 use Rattle.tokens.proofs.Steps.{both}
@@ -26,7 +26,7 @@ stored p out i a e h = rw (drop-cons out i 0 h, set_at p (get_or out i 0) (drop 
 module _ (text : List ℕ) (i : ℕ) where
   pub next_digit : i < length text → value (get_or text i 0) < 16 → are_digits (drop i text) ≡ are_digits (drop (i + 1) text)
   unfolding are_digits
-  next_digit h d = rw (drop-cons text i 0 h, lt_ltb (value (get_or text i 0)) 16 d, add-one i)
+  next_digit h d = rw (drop-cons text i 0 h, lt-ltb (value (get_or text i 0)) 16 d, add-one i)
 
   pub no_digit : i < length text → 16 ≤ value (get_or text i 0) → are_digits (drop i text) ≡ false
   unfolding are_digits
@@ -88,7 +88,7 @@ module _ (octets out : List ℕ) where
       → (2 * i ≡ length (fitting octets out)) × (now ≡ placed 0 (fitting octets out) out)
   unfolding fitting placed
   all_written now i all fits e =
-      let fit = le_leb (2 * length octets) (length out) fits in
+      let fit = le-leb (2 * length octets) (length out) fits in
       let size : 0 + length (digits octets) ≡ 2 * length octets = omega (arith, digits_length octets) in
       (rw (fit, digits_length octets) (omega arith), rw (fit, e, all, take-length octets, size))
 
@@ -134,12 +134,12 @@ module _ (text out : List ℕ) where
 
   pub other_text : length text ≡ 2 * length out → are_digits text ≡ false → (false ≡ spells (length out) text) × (out ≡ decoded text out)
   unfolding spells
-  other_text h e = kept (rw (eq_eqb (length text) (2 * length out) h, e))
+  other_text h e = kept (rw (eq-eqb (length text) (2 * length out) h, e))
 
   pub spelled : {now : List ℕ} → length text ≡ 2 * length out → are_digits text ≡ true → now ≡ octets_of text → (true ≡ spells (length out) text) × (now ≡ decoded text out)
   unfolding spells decoded
   spelled h e n =
-      let size = eq_eqb (length text) (2 * length out) h in
+      let size = eq-eqb (length text) (2 * length out) h in
       (rw (size, e), rw (size, e, n))
 
 -- ---- What is written is read back
@@ -163,8 +163,8 @@ digits_are (x ∷ octets) bytes =
     rw (
       digit_back (x / 16) (omega arith),
       digit_back (x % 16) (omega arith),
-      lt_ltb (x / 16) 16 (omega arith),
-      lt_ltb (x % 16) 16 (omega arith),
+      lt-ltb (x / 16) 16 (omega arith),
+      lt-ltb (x % 16) 16 (omega arith),
     )
     (digits_are octets (λ i. bytes (suc i)))
 
@@ -179,6 +179,6 @@ octets_back (x ∷ octets) bytes =
 pub read_back : (octets : List ℕ) → Octets octets → ReadBack octets
 unfolding spells
 read_back octets bytes = record {
-  accepted = rw (eq_eqb (length (digits octets)) (2 * length octets) (digits_length octets)) (digits_are octets bytes);
+  accepted = rw (eq-eqb (length (digits octets)) (2 * length octets) (digits_length octets)) (digits_are octets bytes);
   octets_back = octets_back octets bytes;
 }

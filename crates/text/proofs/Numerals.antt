@@ -8,7 +8,7 @@ use native.Mathlib.Numerals.{add-one}
 use lib.Dec.{leb}
 use lib.ListN.{length, get_or, drop, drop_of_length-le}
 use lib.Seq.{drop-cons}
-use borrow.Author.Tests.{lt_ltb, le-ltb, le_leb, lt-leb}
+use borrow.Author.Tests.{lt-ltb, le-ltb, le-leb, lt-leb}
 use Rattle.text.specs.Decimal.{value, are_digits, value_after, read}
 use Rattle.text.specs.declared.decimal.Number.{Number}
 use Rattle.text.specs.declared.decimal.Number.TheVariants.{Value, Wrong}
@@ -23,12 +23,12 @@ read_empty text e = rw (lt-leb 1 (length text) (omega arith))
 
 pub read_some : (text : List ℕ) → 1 ≤ length text → read text ≡ read_after 0 text
 unfolding read read_after
-read_some text h = rw (le_leb 1 (length text) h)
+read_some text h = rw (le-leb 1 (length text) h)
 
 module _ (n : ℕ) (text : List ℕ) (i : ℕ) where
   pub next_digit : {d : ℕ} → i < length text → d ≡ value (get_or text i 0) → d < 10 → read_after n (drop i text) ≡ read_after (10 * n + d) (drop (i + 1) text)
   unfolding read_after are_digits value_after
-  next_digit h e small = rw (e, drop-cons text i 0 h, lt_ltb (value (get_or text i 0)) 10 (rw e at small), add-one i)
+  next_digit h e small = rw (e, drop-cons text i 0 h, lt-ltb (value (get_or text i 0)) 10 (rw e at small), add-one i)
 
   pub no_digit : i < length text → 10 ≤ value (get_or text i 0) → read_after n (drop i text) ≡ Wrong
   unfolding read_after are_digits
@@ -36,7 +36,7 @@ module _ (n : ℕ) (text : List ℕ) (i : ℕ) where
 
   pub all_read : length text ≤ i → n ≤ 4294967295 → read_after n (drop i text) ≡ Value n
   unfolding read_after are_digits value_after
-  all_read h most = rw (drop_of_length-le text {i = i} h, le_leb n 4294967295 most)
+  all_read h most = rw (drop_of_length-le text {i = i} h, le-leb n 4294967295 most)
 
 value_least : (n : ℕ) (text : List ℕ) → n ≤ value_after n text
 unfolding value_after

@@ -1,4 +1,6 @@
 // Text as a command line has it: octets in hexadecimal, numbers in decimal, words, and UTF-8. Every public function takes any octets.
+#![tactic(auto)]
+
 pub mod decimal;
 pub mod hex;
 pub mod utf8;

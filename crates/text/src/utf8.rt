@@ -8,7 +8,7 @@ use tokens::checks;
 pub const MOST: usize = 1024;
 
 // What comes of a text: its units, or why there are none.
-#[derive(Drop)]
+#[derive(Clone, Copy)]
 pub enum Reading {
     Units,
     NotUtf8,
@@ -16,7 +16,7 @@ pub enum Reading {
 }
 
 // The units of a text: how many, and they themselves with zeros after the last. If there are none, all are zeros.
-#[derive(Drop)]
+#[derive(Clone, Copy)]
 pub struct Text {
     pub reading: Reading,
     pub count: usize,
@@ -24,14 +24,14 @@ pub struct Text {
 }
 
 // The character at the front of some octets: how many of them it takes, and its number.
-#[derive(Drop)]
+#[derive(Clone, Copy)]
 enum Character {
     Number { width: usize, value: u32 },
     Wrong,
 }
 
 // The octets of a character: the first `width` of four.
-#[derive(Drop)]
+#[derive(Clone, Copy)]
 struct Form {
     width: usize,
     octets: [u8; 4],

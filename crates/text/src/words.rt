@@ -7,7 +7,7 @@ use tokens::context::Sender;
 use tokens::strength::Strength;
 
 // What the program is asked to do.
-#[derive(Drop)]
+#[derive(Clone, Copy)]
 pub enum Verb {
     Key,
     Open,
@@ -23,21 +23,21 @@ pub enum Verb {
 }
 
 // A strength, or that a word is none.
-#[derive(Drop)]
+#[derive(Clone, Copy)]
 pub enum StrengthWord {
     Is(Strength),
     Wrong,
 }
 
 // A sender, or that a word is none.
-#[derive(Drop)]
+#[derive(Clone, Copy)]
 pub enum SenderWord {
     Is(Sender),
     Wrong,
 }
 
 // Sealed or not, or that a word is neither.
-#[derive(Drop)]
+#[derive(Clone, Copy)]
 pub enum SealingWord {
     Is(bool),
     Wrong,

@@ -6,7 +6,7 @@ use Prim.Native.Nat.{ℕ, ◌+◌, ◌≤◌}
 use native.Mathlib.Omega.{arith}
 use lib.ListN.{length, take, drop, length-append, length-take, length-drop}
 use lib.Seq.{take_at, drop_at, take-append-le, take-take, drop-drop, length-take-le}
-use borrow.Author.Tests.{leb-true, le_leb}
+use borrow.Author.Tests.{leb-true, le-leb}
 use Rattle.primitives.specs.Octets.{Octets}
 use Rattle.tokens.specs.Answer.{done, require, number}
 use Rattle.tokens.specs.Limits.{most_message, region, placed}
@@ -132,9 +132,9 @@ module _ {octets : List ℕ} where
 pub mic_makes : (context : Context) (n : ℕ) (text buf : List ℕ) (start : ℕ) → length text ≤ most_message → start + Mic.mic_length ≤ length buf
     → Mic.mic_writing context n text buf start ≡ done (Mic.mic_token context n text)
 unfolding Mic.mic_writing require
-mic_makes context n text buf start most inside = rw (le_leb 0 (length text) (omega arith), le_leb (length text) most_message most, le_leb (start + Mic.mic_length) (length buf) inside)
+mic_makes context n text buf start most inside = rw (le-leb 0 (length text) (omega arith), le-leb (length text) most_message most, le-leb (start + Mic.mic_length) (length buf) inside)
 
 pub wrap_makes : (context : Context) (sequence : ℕ) (confounder : List ℕ) (sealed : Bool) (buf : List ℕ) (start n : ℕ) → n ≤ most_message → start + Wrap.wrap_length n ≤ length buf
     → Wrap.wrap_writing context sequence confounder sealed buf start n ≡ done (Wrap.wrap_token context (Wrap.parts sequence sealed confounder (region (start + Wrap.message_at) n buf)))
 unfolding Wrap.wrap_writing require
-wrap_makes context sequence confounder sealed buf start n most inside = rw (le_leb 0 n (omega arith), le_leb n most_message most, le_leb (start + Wrap.wrap_length n) (length buf) inside)
+wrap_makes context sequence confounder sealed buf start n most inside = rw (le-leb 0 n (omega arith), le-leb n most_message most, le-leb (start + Wrap.wrap_length n) (length buf) inside)

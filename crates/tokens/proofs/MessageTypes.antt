@@ -7,7 +7,7 @@ use native.Mathlib.Decide.{ℕ_discrete}
 use native.Mathlib.Omega.{arith}
 use lib.Dec.{T, eqb, eqb→eq}
 use lib.ListN.{get_or}
-use borrow.Author.Tests.{eq_eqb, ne_eqb}
+use borrow.Author.Tests.{eq-eqb, ne_eqb}
 use Rattle.primitives.proofs.Laws.{little_endian_four}
 use Rattle.tokens.specs.Usage.{message_types, message_type, type_octets}
 
@@ -44,10 +44,10 @@ module _ (usage : ℕ) (least : 1 ≤ usage) (most : usage ≤ 15) where
       subst (λ (n : ℕ). get_or message_types (usage - 1) 0 ≡ rule n) back (below 15 tt (usage - 1) (omega arith))
 
   pub shared_type : (usage ≡ 3 → ⊥) → usage ≡ 9 → 8 ≡ message_type usage
-  shared_type h e = rw (by_rule, ne_eqb usage 3 h, eq_eqb usage 9 e)
+  shared_type h e = rw (by_rule, ne_eqb usage 3 h, eq-eqb usage 9 e)
 
   pub first_type : usage ≡ 3 → 8 ≡ message_type usage
-  first_type e = rw (by_rule, eq_eqb usage 3 e)
+  first_type e = rw (by_rule, eq-eqb usage 3 e)
 
   pub own_type : (usage ≡ 3 → ⊥) → (usage ≡ 9 → ⊥) → usage % 256 ≡ message_type usage
   own_type h k =

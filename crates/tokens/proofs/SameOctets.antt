@@ -7,7 +7,7 @@ use native.Mathlib.Omega.{arith}
 use lib.Bits.{bit_or, bit_xor, and_le_l, and_le_r, or_add_and, xor_add_and, xor_self}
 use lib.Dec.{eqb}
 use lib.ListN.{length, get_or, take}
-use borrow.Author.Tests.{eqb-true, eqb-false, eq_eqb, ne_eqb}
+use borrow.Author.Tests.{eqb-true, eqb-false, eq-eqb, ne_eqb}
 use Rattle.tokens.specs.Octets.{same}
 use Rattle.tokens.proofs.Steps.{both}
 
@@ -23,7 +23,7 @@ same_true (x ∷ a) (y ∷ b) e =
 pub same_self : (a : List ℕ) → same a a ≡ true
 unfolding same
 same_self [] = refl
-same_self (x ∷ a) = simp (eq_eqb x x refl, same_self a)
+same_self (x ∷ a) = simp (eq-eqb x x refl, same_self a)
 
 pub not_same : (a b : List ℕ) → (a ≡ b → ⊥) → same a b ≡ false
 not_same a b ne = decided (same a b) refl
@@ -56,7 +56,7 @@ pub no_difference : (d x y : ℕ) → eqb (bit_or d (bit_xor x y)) 0 ≡ (eqb d 
 no_difference d x y = decided (eqb d 0) (eqb x y) refl refl
   where
     decided : (p q : Bool) → eqb d 0 ≡ p → eqb x y ≡ q → eqb (bit_or d (bit_xor x y)) 0 ≡ (eqb d 0 && eqb x y)
-    decided true true ed ex = rw (eqb-true d 0 ed, eqb-true x y ex, xor_self y, eq_eqb y y refl)
+    decided true true ed ex = rw (eqb-true d 0 ed, eqb-true x y ex, xor_self y, eq-eqb y y refl)
     decided true false ed ex =
         let nx = eqb-false x y ex in
         rw (ed, ex)

@@ -3,7 +3,7 @@ ghost use Rattle.std.specs.Prelude.{◌≡◌};
 ghost use Rattle.tokens.specs.Answer as Spec;
 
 // Why a call is refused: every number that a call of any crate returns, in their order. docs/RULES.md says when each is given.
-#[derive(Drop)]
+#[derive(Clone, Copy)]
 pub enum Refusal {
     Length,
     Region,
@@ -34,35 +34,35 @@ impl Refusal {
 }
 
 // Whether a step is done.
-#[derive(Drop)]
+#[derive(Clone, Copy)]
 pub enum Status {
     Done,
     Refused(Refusal),
 }
 
 // A key or a checksum, sixteen zeros with a refusal.
-#[derive(Drop)]
+#[derive(Clone, Copy)]
 pub struct Digest {
     pub status: Status,
     pub octets: [u8; 16],
 }
 
 // How many octets a call wrote, or found.
-#[derive(Drop)]
+#[derive(Clone, Copy)]
 pub enum Extent {
     Octets(usize),
     Refused(Refusal),
 }
 
 // The sequence number of a token.
-#[derive(Drop)]
+#[derive(Clone, Copy)]
 pub enum Sequence {
     Number(u32),
     Refused(Refusal),
 }
 
 // What a Wrap token holds beside its octets: its sequence number, whether it is sealed, and how long its message is.
-#[derive(Drop)]
+#[derive(Clone, Copy)]
 pub enum Unwrapped {
     Message {
         sequence: u32,

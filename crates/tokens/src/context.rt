@@ -5,7 +5,7 @@ ghost use Rattle.tokens.specs.Session as Spec;
 use crate::strength::Strength;
 
 // Who sends a token: the side that began the session, or the other.
-#[derive(Drop)]
+#[derive(Clone, Copy)]
 pub enum Sender {
     Initiator,
     Acceptor,
@@ -24,7 +24,7 @@ impl Sender {
 }
 
 // The session key and its strength, and the sender. For a reader it is the sender that is expected.
-#[derive(Drop)]
+#[derive(Clone, Copy)]
 pub struct Context {
     pub key: [u8; 16],
     pub strength: Strength,

@@ -16,21 +16,21 @@ pub const OVERHEAD: usize = 24;
 const CONFOUNDER_AT: usize = 16;
 
 // K1, and K2, which is K1 before export strength sets its octets.
-#[derive(Drop)]
+#[derive(Clone, Copy)]
 struct Keys {
     k1: [u8; 16],
     k2: [u8; 16],
 }
 
 // The octets before the message.
-#[derive(Drop)]
+#[derive(Clone, Copy)]
 struct Front {
     checksum: [u8; 16],
     confounder: [u8; 8],
 }
 
 // Whether the checksum was right, and the confounder: plain if it was, and else as it came.
-#[derive(Drop)]
+#[derive(Clone, Copy)]
 struct Opened {
     status: Status,
     confounder: [u8; 8],

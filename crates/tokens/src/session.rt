@@ -6,7 +6,7 @@ use crate::context::{Context, Sender};
 use crate::strength::Strength;
 
 // The session key and its strength, our own role, and whether the session insists on sealing.
-#[derive(Drop)]
+#[derive(Clone, Copy)]
 pub struct Session {
     pub key: [u8; 16],
     pub strength: Strength,

@@ -2,7 +2,7 @@
 ghost use Rattle.std.specs.Prelude.{◌≡◌};
 ghost use Rattle.tokens.specs.Strength as Spec;
 
-#[derive(Drop)]
+#[derive(Clone, Copy)]
 pub enum Strength {
     Full,
     Export,
@@ -10,7 +10,7 @@ pub enum Strength {
 
 // The salt for a T: the four octets of T, or for export "fortybits" with its closing zero and then those four. `length` says how
 // many of the fourteen octets are the salt; the others are zeros.
-#[derive(Drop)]
+#[derive(Clone, Copy)]
 pub struct Salt {
     pub octets: [u8; 14],
     pub length: usize,

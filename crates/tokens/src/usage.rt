@@ -7,13 +7,13 @@ use crate::answer::{Refusal, Status};
 use crate::strength::{Salt, Strength};
 
 // What a key is used for: T, the message type as four octets, the lowest first.
-#[derive(Drop)]
+#[derive(Clone, Copy)]
 pub struct Usage {
     t: [u8; 4],
 }
 
 // A usage by its number, or T as zeros with a refusal.
-#[derive(Drop)]
+#[derive(Clone, Copy)]
 pub struct Named {
     pub status: Status,
     pub usage: Usage,

@@ -30,21 +30,21 @@ const TYPE: [u8; 4] = [13, 0, 0, 0];
 const PAD: u8 = 0x01;
 
 // Whether a token is sealed, by its header.
-#[derive(Drop)]
+#[derive(Clone, Copy)]
 enum Sealing {
     Sealed(bool),
     Refused(Refusal),
 }
 
 // The octets before the message.
-#[derive(Drop)]
+#[derive(Clone, Copy)]
 struct Leading {
     front: [u8; 24],
     confounder: [u8; 8],
 }
 
 // What opening answers, and the confounder: plain if the token is opened, and else as it came.
-#[derive(Drop)]
+#[derive(Clone, Copy)]
 struct Opened {
     answer: Unwrapped,
     confounder: [u8; 8],

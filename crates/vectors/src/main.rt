@@ -1,4 +1,6 @@
 // Runs the published test vectors and the refusals at each limit. What it writes is held to the file `stdout`.
+#![tactic(auto)]
+
 mod digests;
 mod keystreams;
 mod limits;

@@ -1,5 +1,5 @@
 -- What holds at the head of each loop of `rc4`: before its first turn, after one turn more, and at its end.
-use Rattle.std.proofs.Common.{◌≡◌, ℕ, suc, ◌+◌, ◌%◌, ◌<◌, ◌≤◌, ◌⊎◌, List, [], ◌∷◌, ◌++◌, length, get_or, take, drop, set, sym, refl, ap, ◌∙◌, ap₂, inl, inr, append-nil, mod-eq_of_lt, add_comm, add-one, arith, length-set, length-take-le, take_all, drop-cons, get_or_set_other, take-suc, get_or-set_same, take-suc-set}
+use Rattle.std.proofs.Common.{◌≡◌, ℕ, suc, ◌+◌, ◌%◌, ◌<◌, ◌≤◌, ◌⊎◌, List, [], ◌∷◌, ◌++◌, length, get_or, take, drop, set, sym, refl, ap, ◌∙◌, ap₂, inl, inr, append-nil, mod-eq_of_lt, add_comm, add-one, arith, length-set, length-take-le, take_all, drop-cons, get_or-set_other, take-suc, get_or-set_same, take-suc-set}
 use native.Mathlib.Nat.{zero-mod, mod_self, mod-add-mod}
 use native.Mathlib.Decide.{ℕ_discrete}
 use lib.Seq.{get_or_at, set_at, append_snoc, take-length, drop-length}
@@ -121,7 +121,7 @@ swap_i : (s : List ℕ) (i j : ℕ) → Dec (i ≡ j) → i < length s → j < l
 swap_i s i j (yes e) hi hj =
     ap (λ (x : ℕ). get_or (swap s i j) x 0) e ∙ swap_j s i j hj ∙ ap (λ (x : ℕ). get_or s x 0) e
 swap_i s i j (no n) hi hj =
-    get_or_set_other (set s i (get_or s j 0)) j i (get_or s i 0) 0 n ∙ get_or-set_same s i (get_or s j 0) 0 hi
+    get_or-set_other (set s i (get_or s j 0)) j i (get_or s i 0) 0 n ∙ get_or-set_same s i (get_or s j 0) 0 hi
 
 -- the octet that the state gives, by what stood at the two places before the swap
 swap_octet : (s : List ℕ) (i j : ℕ) → i < length s → j < length s
@@ -139,8 +139,8 @@ ahead_is : (s : List ℕ) (i j b : ℕ) {ahead a a' : ℕ} → length s ≡ 256 
     → a' ≡ get_or (set (set s i b) j a) ahead 0
 ahead_is s i j b {ahead} {a} {a'} size hj apart (inl (other, e)) =
     e
-    ∙ sym (get_or_set_other s i ahead b 0 apart)
-    ∙ sym (get_or_set_other (set s i b) j ahead a 0 (λ same. other (sym same)))
+    ∙ sym (get_or-set_other s i ahead b 0 apart)
+    ∙ sym (get_or-set_other (set s i b) j ahead a 0 (λ same. other (sym same)))
 ahead_is s i j b {ahead} {a} {a'} size hj apart (inr (same, e)) =
     e
     ∙ sym (get_or-set_same (set s i b) j a 0 (simp length-set (omega arith)))

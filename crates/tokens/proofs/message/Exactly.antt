@@ -6,7 +6,7 @@ use Prim.Native.Nat.{ℕ, ◌+◌, ◌-◌, ◌≤◌}
 use native.Mathlib.Omega.{arith}
 use lib.ListN.{length, take, drop, length-append, length-drop, take-append-drop}
 use lib.Seq.{take_at, drop_at, length-take-le}
-use borrow.Author.Tests.{leb-true, le_leb}
+use borrow.Author.Tests.{leb-true, le-leb}
 use Rattle.primitives.specs.Octets.{Octets}
 use Rattle.primitives.specs.Rc4.{rc4, key_schedule}
 use Rattle.primitives.proofs.Laws.{apply_length, apply_octets, apply_twice, schedule_octets}
@@ -122,11 +122,11 @@ module _ (key : List ℕ) (strength : Strength) (usage : ℕ) where
     written_found h p w =
         let l : n ≡ 24 + length p.message = sym (region_length buf start n h) ∙ written_length p (region start n buf) w in
         rw (
-          le_leb 24 n (omega arith),
-          le_leb n (24 + most_message) (omega (arith, w.message_most)),
-          le_leb (start + n) (length buf) h,
-          le_leb least_usage usage w.usage_least,
-          le_leb usage most_usage w.usage_most,
+          le-leb 24 n (omega arith),
+          le-leb n (24 + most_message) (omega (arith, w.message_most)),
+          le-leb (start + n) (length buf) h,
+          le-leb least_usage usage w.usage_least,
+          le-leb usage most_usage w.usage_most,
         ) (written_opens p (region start n buf) w)
 
     found_written : Octets buf → (p : Parts) → found ≡ done p → (start + n ≤ length buf) × Written key strength usage p (region start n buf)

@@ -4,7 +4,7 @@ use mathlib.Core.List.{List, [], ◌++◌, append-nil}
 use Prim.Native.Nat.{ℕ, ◌+◌, ◌≤◌, ◌<◌}
 use native.Mathlib.Omega.{arith}
 use lib.ListN.{length, drop, drop_of_length-le}
-use borrow.Author.Tests.{leb-true, le_leb}
+use borrow.Author.Tests.{leb-true, le-leb}
 use Rattle.primitives.specs.Octets.{Octets}
 use Rattle.tokens.specs.Answer.{Outcome, done, require, and_then, sequence_refusal, sequence_number, sequence_answer}
 use Rattle.tokens.specs.Limits.{most_message, region}
@@ -83,11 +83,11 @@ module _ (context : Context) (text : List ℕ) where
         let least : mic_length ≤ n = omega arith in
         let most : n ≤ mic_length = omega arith in
         rw (
-          le_leb 0 (length text) (omega arith),
-          le_leb (length text) most_message w.text_most,
-          le_leb mic_length n least,
-          le_leb n mic_length most,
-          le_leb (start + n) (length buf) h,
+          le-leb 0 (length text) (omega arith),
+          le-leb (length text) most_message w.text_most,
+          le-leb mic_length n least,
+          le-leb n mic_length most,
+          le-leb (start + n) (length buf) h,
         ) (written_reads k (region start n buf) w)
 
     found_written : Octets buf → (k : ℕ) → found ≡ done k → (start + n ≤ length buf) × Written context text k (region start n buf)

@@ -6,7 +6,7 @@ use Prim.Native.Nat.{ℕ, zero, suc, ◌+◌, ◌-◌, ◌≤◌, ◌<◌}
 use native.Mathlib.Omega.{arith}
 use lib.ListN.{length, get_or, take, drop, length-append, length-drop, take-append-drop}
 use lib.Seq.{take_at, drop_at, get_or_at, get_or-drop, length-take-le}
-use borrow.Author.Tests.{eqb-true, eq_eqb, leb-true, le_leb}
+use borrow.Author.Tests.{eqb-true, eq-eqb, leb-true, le-leb}
 use Rattle.primitives.specs.Octets.{Octets}
 use Rattle.primitives.specs.Rc4.{key_schedule}
 use Rattle.primitives.proofs.Laws.{apply_octets, apply_twice, schedule_octets}
@@ -120,7 +120,7 @@ module _ (p : Parts) (eight : length p.confounder ≡ 8) where
           front_rest context (header p.sealed) sum p.sequence size_header size_sum body,
           seal_twice context p.sealed p.sequence (plain p),
           same_self sum,
-          eq_eqb (get_or (plain p) (length (plain p) - 1) 0) 1 plain_last,
+          eq-eqb (get_or (plain p) (length (plain p) - 1) 0) 1 plain_last,
         )
         (ap done apart_plain)
 
@@ -224,7 +224,7 @@ module _ (context : Context) where
     unfolding wrap_opening require
     written_found h p w =
         let size : n ≡ 33 + length p.message = sym (region_length buf start n h) ∙ written_length p (region start n buf) w in
-        rw (le_leb 33 n (omega arith), le_leb n (33 + most_message) (omega (arith, w.message_most)), le_leb (start + n) (length buf) h)
+        rw (le-leb 33 n (omega arith), le-leb n (33 + most_message) (omega (arith, w.message_most)), le-leb (start + n) (length buf) h)
         (written_opens p (region start n buf) w)
 
     found_written : Octets buf → (p : Parts) → found ≡ done p → (start + n ≤ length buf) × Written context p (region start n buf)

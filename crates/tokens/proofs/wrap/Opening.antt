@@ -7,7 +7,7 @@ use native.Mathlib.Omega.{arith}
 use lib.Dec.{eqb}
 use lib.ListN.{length, get_or, take, drop, set, length-append, length-take, length-drop, drop_of_length-le}
 use lib.Seq.{drop_at, set_split, get_or-append-add}
-use borrow.Author.Tests.{eqb-true, eq_eqb, ne_eqb}
+use borrow.Author.Tests.{eqb-true, eq-eqb, ne_eqb}
 use Rattle.tokens.specs.Answer.{Outcome, done, refused, require, and_then, tested, status_answer, sequence_answer}
 use Rattle.tokens.specs.Limits.{buffer_after}
 use Rattle.tokens.specs.Octets.{same}
@@ -62,7 +62,7 @@ module _ (context : Context) (sealed : Bool) (confounder body : List ℕ) (some 
 
   pub pad_found : s ≡ Done → get_or body (length body - 1) 0 ≡ 1 → Done ≡ status_answer (verified context sealed sum (confounder ++ body))
   unfolding require
-  pad_found d e = rw (passed d, eq_eqb (get_or (confounder ++ body) (length (confounder ++ body) - 1) 0) 1 (last_is ∙ e))
+  pad_found d e = rw (passed d, eq-eqb (get_or (confounder ++ body) (length (confounder ++ body) - 1) 0) 1 (last_is ∙ e))
 
   pub pad_refused : s ≡ Done → (get_or body (length body - 1) 0 ≡ 1 → ⊥) → Refused Refusal.Pad ≡ status_answer (verified context sealed sum (confounder ++ body))
   unfolding require

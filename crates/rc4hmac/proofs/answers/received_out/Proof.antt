@@ -7,7 +7,7 @@ use Rattle.rc4hmac.proofs.answers.received_out.Tie as tie
 returns : tie.Need-returns
 returns c =
     let billed = sym c.before.before.before.before.is-billed.ensures ∙ c.before.before.before.if1.true in
-    record { status-is = c.before.before.before.before.before.number.ensures; window-is = rw billed c.window-out.ensures }
+    record { status_is = c.before.before.before.before.before.number.ensures; window_is = rw billed c.window-out.ensures }
 
 returns-2 : tie.Need-returns-2
 returns-2 c = search rules

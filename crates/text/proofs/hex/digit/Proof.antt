@@ -1,11 +1,11 @@
 -- The two ranges of digits in turn.
 use borrow.Author.Rules.{rules}
-use borrow.Author.Tests.{lt_ltb, le-ltb}
+use borrow.Author.Tests.{lt-ltb, le-ltb}
 use Rattle.text.proofs.hex.digit.Statement.{statement}
 use Rattle.text.proofs.hex.digit.Tie as tie
 
 returns : tie.Need-returns
-returns c = rw (lt_ltb _ _ c.if1.true)
+returns c = rw (lt-ltb _ _ c.if1.true)
 
 returns-2 : tie.Need-returns-2
 returns-2 c = rw (le-ltb _ _ c.if1.false)

@@ -44,10 +44,10 @@ type-is : (c : tie.After-enum-told5) → c.before.before.new.result.usage.t ≡ 
 type-is c = named_type _ c.before.before.new.ensures c.enum-told5.given.1
 
 -- what reading the part says of the region and of the buffer
-status-is : (c : tie.After-read)
+status_is : (c : tie.After-read)
     → let a = c.before.before.before.before.before.before.before.before.before.before.before.before.before.args in
     c.read.result ≡ status_answer (Spec.opened a.key a.strength (type_octets a.usage) (region a.start a.len a.buf.now))
-status-is c =
+status_is c =
     let a = c.before.before.before.before.before.before.before.before.before.before.before.before.before.args in
     let part : a.start + a.len - a.start ≡ a.len = omega arith in
     read_status a.key a.strength (type_octets a.usage) a.buf.now a.start a.len (inside c.before.before.before.before.before.before) (sized c.before.before.before.before.before.before.before.before.before).0
@@ -113,7 +113,7 @@ returns-4 c =
     let opened = c.before.before.before.before.before in
     let a = opened.before.before.before.before.before.before.before.before.before.before.before.before.before.args in
     exact_clauses a.key a.strength a.usage a.buf.now a.start a.len (bytes opened.before.before.before.before.before.before.before.before.before.before.before.before)
-    (ap (extent_answer Spec.message_length) (sym (passed opened ∙ was_refused _ (sym (status-is opened) ∙ told)))) (buffer-is opened)
+    (ap (extent_answer Spec.message_length) (sym (passed opened ∙ was_refused _ (sym (status_is opened) ∙ told)))) (buffer-is opened)
 
 sub-t14 : tie.Need-overflow-sub-t14
 sub-t14 c = omega (arith, (sized c.before.before.before.before.before.before.before.before.before.before.before.before.before).0)
@@ -124,7 +124,7 @@ returns-5 c =
     let a = opened.before.before.before.before.before.before.before.before.before.before.before.before.before.args in
     exact_clauses a.key a.strength a.usage a.buf.now a.start a.len (bytes opened.before.before.before.before.before.before.before.before.before.before.before.before)
     (rw (passed opened)
-    (read_length a.key a.strength (type_octets a.usage) a.buf.now a.start a.len (inside opened.before.before.before.before.before.before) (sized opened.before.before.before.before.before.before.before.before.before).0 (status-is opened) c.enum-told7.given.1))
+    (read_length a.key a.strength (type_octets a.usage) a.buf.now a.start a.len (inside opened.before.before.before.before.before.before) (sized opened.before.before.before.before.before.before.before.before.before).0 (status_is opened) c.enum-told7.given.1))
     (buffer-is opened)
 
 pub decrypt-spec : {M : Type 1} → statement M

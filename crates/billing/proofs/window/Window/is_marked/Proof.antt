@@ -1,12 +1,12 @@
 -- The binary digit at the place.
-use Rattle.std.proofs.Common.{sym, rules, eq_eqb, ne_eqb}
+use Rattle.std.proofs.Common.{sym, rules, eq-eqb, ne_eqb}
 use Rattle.billing.specs.Window.{is_marked}
 use Rattle.billing.proofs.window.Window.is_marked.Statement.{statement}
 use Rattle.billing.proofs.window.Window.is_marked.Tie as tie
 
 returns : tie.Need-returns
 unfolding is_marked
-returns c = sym (eq_eqb _ _ c.if1.true)
+returns c = sym (eq-eqb _ _ c.if1.true)
 
 returns-2 : tie.Need-returns-2
 unfolding is_marked

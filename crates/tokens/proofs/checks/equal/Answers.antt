@@ -1,0 +1,13 @@
+-- The test as the definition makes it.
+use mathlib.Core.Path.{sym, ◌∙◌}
+use borrow.Author.Rules.{rules}
+use Rattle.tokens.specs.Answer.{tested}
+use Rattle.tokens.proofs.checks.equal.Goals as goal
+
+pub returns-then-same : goal.returns-then-same
+unfolding tested
+returns-then-same c = rw (sym c.same.ensures ∙ c.if-same.true)
+
+pub returns : goal.returns
+unfolding tested
+returns c = rw (sym c.same.ensures ∙ c.if-same.false)

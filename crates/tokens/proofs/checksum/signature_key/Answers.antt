@@ -1,0 +1,8 @@
+-- The text is "signaturekey" with its closing zero.
+use Rattle.tokens.specs.Checksum.{signature_key}
+use borrow.Author.Rules.{rules}
+use Rattle.tokens.proofs.checksum.signature_key.Goals as goal
+
+pub returns : goal.returns
+unfolding signature_key
+returns c = c.of.ensures

@@ -1,0 +1,60 @@
+-- The length's refusal, or the digest of the units' octets, which stand at the front of the array.
+use mathlib.Core.Path.{◌≡◌, ap, sym, ◌∙◌}
+use Prim.Native.Nat.{◌*◌, ◌≤◌}
+use lib.ListN.{length, take}
+use lib.Seq.{length-take-le, take_at}
+use Rattle.primitives.specs.Hash.{absorb, begun, finished}
+use Rattle.primitives.specs.declared.hash.Hash.{Hash}
+use Rattle.primitives.specs.declared.hash.Algorithm.TheVariants.{Md4 as is-md4}
+use Rattle.primitives.proofs.Laws.{hash_digest}
+use Rattle.tokens.specs.Key as Spec
+use Rattle.tokens.proofs.Steps.{goes_on, stops, digest_refused, digest_done, test_held, within_bounds}
+use Rattle.tokens.proofs.Unicode.{unicode_length}
+use borrow.Author.Rules.{rules}
+use native.Mathlib.Omega.{arith}
+use Rattle.tokens.proofs.key.password_key.Goals as goal
+
+pub returns-in_default : goal.returns-in_default
+unfolding Spec.password_key
+returns-in_default c =
+    let told = c.in_default.is in
+    digest_refused told (stops _ _ _ c.length-status.ensures told) c.digest.ensures
+
+pub unicode-octets-requires : goal.unicode-octets-requires
+unicode-octets-requires c =
+    let most : length c.args.units.now ≤ 256 =     let n = length c.args.units.now in
+    (within_bounds 0 256 n (test_held _ _ (sym c.length-status.ensures ∙ c.in-Done.is))).1 in
+    most
+
+pub overflow_mul-octets : goal.overflow_mul-octets
+overflow_mul-octets c =
+    let most : length c.args.units.now ≤ 256 =     let n = length c.args.units.now in
+    (within_bounds 0 256 n (test_held _ _ (sym c.length-status.ensures ∙ c.in-Done.is))).1 in
+    omega (arith, most)
+
+pub slice_bounds-octets-end : goal.slice_bounds-octets-end
+slice_bounds-octets-end c =
+    let most : length c.args.units.now ≤ 256 =     let n = length c.args.units.now in
+    (within_bounds 0 256 n (test_held _ _ (sym c.length-status.ensures ∙ c.in-Done.is))).1 in
+    let fits : 2 * length c.args.units.now ≤ length c.unicode-octets.result = let size : length c.unicode-octets.result ≡ 512 = search rules in omega (arith, most) in
+    fits
+
+pub slice_bounds-update-end : goal.slice_bounds-update-end
+slice_bounds-update-end c =
+    let most : length c.args.units.now ≤ 256 =     let n = length c.args.units.now in
+    (within_bounds 0 256 n (test_held _ _ (sym c.length-status.ensures ∙ c.in-Done.is))).1 in
+    let fits : 2 * length c.args.units.now ≤ length c.unicode-octets.result = let size : length c.unicode-octets.result ≡ 512 = search rules in omega (arith, most) in
+    sym (length-take-le _ _ fits)
+
+pub returns : goal.returns
+unfolding Spec.password_key Spec.string_to_key
+returns c =
+    let units = c.args.units.now in
+    let octets = c.unicode-octets in
+    let front : take (2 * length units) octets.result ≡ Spec.unicode units
+    = ap (take (2 * length units)) octets.ensures ∙ take_at (Spec.unicode units) _ (2 * length units) (unicode_length units) in
+    digest_done c.in-Done.is
+    (c.finish.ensures
+    ∙ ap finished (c.update.ensures ∙ ap (λ (h : Hash). absorb h (take (2 * length units) octets.result)) c.new.ensures ∙ ap (absorb (begun is-md4)) front)
+    ∙ hash_digest is-md4 (Spec.unicode units))
+    (goes_on _ _ _ c.length-status.ensures c.in-Done.is)

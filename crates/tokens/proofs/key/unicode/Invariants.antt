@@ -1,0 +1,17 @@
+-- The first i units have been turned to octets.
+use mathlib.Core.Path.{◌≡◌, refl, ap, sym, ◌∙◌}
+use mathlib.Core.List.{◌++◌}
+use Prim.Native.Nat.{ℕ, ◌≤◌, ◌-◌, ◌*◌}
+use native.Mathlib.Numerals.{add-one}
+use lib.ListN.{length, take, replicate}
+use lib.Seq.{take-length}
+use Rattle.tokens.specs.Key.{unicode}
+use Rattle.tokens.proofs.Unicode.{stored}
+use native.Mathlib.Omega.{arith}
+use Rattle.tokens.proofs.key.unicode.Given as goal
+
+abbrev pub invariant-loop-i : goal.invariant-loop-i
+invariant-loop-i l = (l.i ≤ length l.units) × (length l.octets ≡ 512) × (l.octets ≡ unicode (take l.i l.units) ++ replicate (512 - 2 * l.i) 0)
+
+abbrev pub decreases-loop-i : goal.decreases-loop-i
+decreases-loop-i l = length l.units - l.i

@@ -1,0 +1,14 @@
+-- The octets fill the array.
+use mathlib.Core.Path.{◌∙◌}
+use Prim.Native.Nat.{◌-◌}
+use Rattle.tokens.proofs.Placing.{part_whole, part_fits}
+use borrow.Author.Rules.{rules}
+use Rattle.tokens.proofs.octets.eight.Goals as goal
+
+pub place-requires : goal.place-requires
+place-requires c = part_fits 8 c.args.at c.args.buf.now c.requires
+
+pub returns : goal.returns
+returns c =
+    let a = c.args in
+    c.place.ensures ∙ part_whole 8 a.at a.buf.now c.requires _ (search rules)

@@ -1,0 +1,12 @@
+-- The header of each.
+use Rattle.tokens.specs.Wrap as Spec
+use borrow.Author.Rules.{rules}
+use Rattle.tokens.proofs.wrap.header.Goals as goal
+
+pub returns-then-sealed : goal.returns-then-sealed
+unfolding Spec.header
+returns-then-sealed c = search rules
+
+pub returns : goal.returns
+unfolding Spec.header
+returns c = search rules

@@ -20,7 +20,10 @@ fn test(rt: &impl Print, name: &[u8], from: usize, to: usize, sum: &[u8])
 {
     let octets = samples::octets();
     text::write_name(rt, name);
-    answers::write_status(rt, checksum::checksum_test(samples::KEY, 6, &octets[from..to], sum));
+    answers::write_status(
+        rt,
+        checksum::checksum_test(samples::KEY, 6, &octets[from..to], sum),
+    );
     text::end_line(rt);
 }
 
@@ -28,7 +31,10 @@ fn encrypt(rt: &impl Print, name: &[u8], usage: u32, start: usize, len: usize) {
     let before = samples::buffer();
     let mut buf = before;
     text::write_name(rt, name);
-    answers::write_extent(rt, samples::encrypt(Strength::Full, usage, &mut buf, start, len));
+    answers::write_extent(
+        rt,
+        samples::encrypt(Strength::Full, usage, &mut buf, start, len),
+    );
     answers::write_buffer(rt, &before, &buf);
 }
 
@@ -36,14 +42,10 @@ fn decrypt(rt: &impl Print, name: &[u8], usage: u32, start: usize, len: usize) {
     let before = samples::buffer();
     let mut buf = before;
     text::write_name(rt, name);
-    answers::write_extent(rt, message::decrypt(
-        samples::KEY,
-        Strength::Full,
-        usage,
-        &mut buf,
-        start,
-        len,
-    ));
+    answers::write_extent(
+        rt,
+        message::decrypt(samples::KEY, Strength::Full, usage, &mut buf, start, len),
+    );
     answers::write_buffer(rt, &before, &buf);
 }
 

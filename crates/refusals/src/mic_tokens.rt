@@ -13,24 +13,33 @@ fn write(rt: &impl Print, name: &[u8], n: usize, start: usize)
     let before = [0x5au8; 40];
     let mut buf = before;
     text::write_name(rt, name);
-    answers::write_extent(rt, samples::mic_write(
-        Strength::Full,
-        Sender::Initiator,
-        n,
-        &mut buf,
-        start,
-    ));
+    answers::write_extent(
+        rt,
+        samples::mic_write(Strength::Full, Sender::Initiator, n, &mut buf, start),
+    );
     answers::write_buffer(rt, &before, &buf);
 }
 
 // A token over the octets from `from` to `to`, read in the `len` octets of a buffer from `start`.
-fn read(rt: &impl Print, name: &[u8], sender: Sender, from: usize, to: usize, buf: &[u8], start: usize, len: usize)
+fn read(
+    rt: &impl Print,
+    name: &[u8],
+    sender: Sender,
+    from: usize,
+    to: usize,
+    buf: &[u8],
+    start: usize,
+    len: usize,
+)
     requires { (from ≤ to) × (to ≤ 32769) }
 {
     let octets = samples::octets();
     let context = samples::context(Strength::Full, sender);
     text::write_name(rt, name);
-    answers::write_sequence(rt, mic::mic_read(context, &octets[from..to], buf, start, len));
+    answers::write_sequence(
+        rt,
+        mic::mic_read(context, &octets[from..to], buf, start, len),
+    );
     text::end_line(rt);
 }
 
@@ -42,7 +51,16 @@ fn refused_reads(rt: &impl Print, buf: &[u8]) {
     read(rt, b"mic_read of 23", role, 0, 4, buf, 0, 23);
     read(rt, b"mic_read of 25", role, 0, 4, buf, 0, 25);
     read(rt, b"mic_read over 32769", role, 0, 32769, buf, 0, 24);
-    read(rt, b"mic_read to one past the buffer", role, 0, 4, buf, 17, 24);
+    read(
+        rt,
+        b"mic_read to one past the buffer",
+        role,
+        0,
+        4,
+        buf,
+        17,
+        24,
+    );
     read(rt, b"mic_read from the wrong role", wrong, 0, 4, buf, 0, 24);
     read(rt, b"mic_read over other data", role, 1, 5, buf, 0, 24);
 }

@@ -15,14 +15,17 @@ fn write(rt: &impl Print, name: &[u8], start: usize, len: usize) {
     let before = samples::buffer();
     let mut buf = before;
     text::write_name(rt, name);
-    answers::write_extent(rt, samples::wrap_write(
-        Strength::Full,
-        Sender::Initiator,
-        true,
-        &mut buf,
-        start,
-        len,
-    ));
+    answers::write_extent(
+        rt,
+        samples::wrap_write(
+            Strength::Full,
+            Sender::Initiator,
+            true,
+            &mut buf,
+            start,
+            len,
+        ),
+    );
     answers::write_buffer(rt, &before, &buf);
 }
 
@@ -30,7 +33,10 @@ fn open(rt: &impl Print, name: &[u8], start: usize, len: usize) {
     let before = samples::buffer();
     let mut buf = before;
     text::write_name(rt, name);
-    answers::write_unwrapped(rt, samples::wrap_open(Sender::Initiator, &mut buf, start, len));
+    answers::write_unwrapped(
+        rt,
+        samples::wrap_open(Sender::Initiator, &mut buf, start, len),
+    );
     answers::write_buffer(rt, &before, &buf);
 }
 
@@ -50,7 +56,14 @@ fn write_kind(rt: &impl Print, sealed: bool) {
 }
 
 // The first `len` octets of a buffer, which begins with a token. The line begins with the token's kind.
-fn open_token(rt: &impl Print, sealed: bool, name: &[u8], sender: Sender, token: [u8; 38], len: usize) {
+fn open_token(
+    rt: &impl Print,
+    sealed: bool,
+    name: &[u8],
+    sender: Sender,
+    token: [u8; 38],
+    len: usize,
+) {
     let mut buf = token;
     write_kind(rt, sealed);
     text::write_name(rt, name);
@@ -64,10 +77,24 @@ fn opened_tokens(rt: &impl Print, sealed: bool) {
     let wrong = Sender::Acceptor;
     let token = token_of_five(sealed);
     open_token(rt, sealed, b"wrap_open", role, token, 38);
-    open_token(rt, sealed, b"wrap_open from the wrong role", wrong, token, 38);
+    open_token(
+        rt,
+        sealed,
+        b"wrap_open from the wrong role",
+        wrong,
+        token,
+        38,
+    );
     let mut changed = token;
     changed[36] = changed[36] ^ 0x01;
-    open_token(rt, sealed, b"wrap_open of a changed message", role, changed, 38);
+    open_token(
+        rt,
+        sealed,
+        b"wrap_open of a changed message",
+        role,
+        changed,
+        38,
+    );
     let mut des = token;
     des[4] = 0x00;
     des[5] = 0x00;
@@ -90,8 +117,22 @@ pub fn refused(rt: &impl Print) {
     opened_tokens(rt, true);
     opened_tokens(rt, false);
     let role = Sender::Initiator;
-    open_token(rt, true, b"wrap_open of another pad", role, SEALED_PAD_2, 33);
-    open_token(rt, false, b"wrap_open of another pad", role, CLEAR_PAD_2, 33);
+    open_token(
+        rt,
+        true,
+        b"wrap_open of another pad",
+        role,
+        SEALED_PAD_2,
+        33,
+    );
+    open_token(
+        rt,
+        false,
+        b"wrap_open of another pad",
+        role,
+        CLEAR_PAD_2,
+        33,
+    );
 }
 
 // The octets of a token, or if it is long their MD5 digest.
@@ -106,7 +147,14 @@ fn write_octets(rt: &impl Print, octets: &[u8]) {
 }
 
 // The token of a message, in a buffer that it fills.
-fn write_token(rt: &impl Print, strength: Strength, sender: Sender, sealed: bool, buf: &mut [u8], len: usize) {
+fn write_token(
+    rt: &impl Print,
+    strength: Strength,
+    sender: Sender,
+    sealed: bool,
+    buf: &mut [u8],
+    len: usize,
+) {
     samples::fill(buf, 32);
     samples::wrap_write(strength, sender, sealed, buf, 0, len);
     text::write(rt, b"wrap");

@@ -24,8 +24,9 @@ returns-in_default c =
     let told = c.by.ensures in
     let a = c.args in
     let refused = stops _ _ _ c.length-sized.ensures told in
-    exact_clauses a.key a.strength a.usage a.buf.now a.start a.len bytes
-    (ap (extent_answer Spec.message_length) (sym refused)) (buffer_refused Spec.plain _ _ refused)
+    let all = exact_clauses a.key a.strength a.usage a.buf.now a.start a.len bytes
+    (ap (extent_answer Spec.message_length) (sym refused)) (buffer_refused Spec.plain _ _ refused) in
+    record { answer = all.0; buffer = all.1.0; exact = all.1.1 }
 
 pub returns-in_default-placed : goal.returns-in_default-placed
 unfolding Spec.decryption
@@ -34,8 +35,9 @@ returns-in_default-placed c =
     let told = c.by-in_default-placed.ensures in
     let a = c.args in
     let refused = goes_on _ _ _ c.length-sized.ensures c.in-Done.is ∙ stops _ _ _ c.region-placed.ensures told in
-    exact_clauses a.key a.strength a.usage a.buf.now a.start a.len bytes
-    (ap (extent_answer Spec.message_length) (sym refused)) (buffer_refused Spec.plain _ _ refused)
+    let all = exact_clauses a.key a.strength a.usage a.buf.now a.start a.len bytes
+    (ap (extent_answer Spec.message_length) (sym refused)) (buffer_refused Spec.plain _ _ refused) in
+    record { answer = all.0; buffer = all.1.0; exact = all.1.1 }
 
 pub returns-in_default-status : goal.returns-in_default-status
 unfolding Spec.decryption
@@ -46,8 +48,9 @@ returns-in_default-status c =
     let refused = goes_on _ _ _ c.length-sized.ensures c.in-Done.is
     ∙ goes_on _ _ _ c.region-placed.ensures c.in-Done-placed.is
     ∙ stops _ _ _ (named_status _ c.new-named.ensures) told in
-    exact_clauses a.key a.strength a.usage a.buf.now a.start a.len bytes
-    (ap (extent_answer Spec.message_length) (sym refused)) (buffer_refused Spec.plain _ _ refused)
+    let all = exact_clauses a.key a.strength a.usage a.buf.now a.start a.len bytes
+    (ap (extent_answer Spec.message_length) (sym refused)) (buffer_refused Spec.plain _ _ refused) in
+    record { answer = all.0; buffer = all.1.0; exact = all.1.1 }
 
 pub overflow_add-end : goal.overflow_add-end
 overflow_add-end c =
@@ -76,23 +79,24 @@ returns-in_default-opened c =
     Spec.decryption a.key a.strength a.usage a.buf.now a.start a.len ≡ Spec.opened a.key a.strength (type_octets a.usage) (region a.start a.len a.buf.now) =    goes_on _ _ _ c.length-sized.ensures c.in-Done.is
     ∙ goes_on _ _ _ c.region-placed.ensures c.in-Done-placed.is
     ∙ goes_on _ _ _ (named_status _ c.new-named.ensures) c.in-Done-status.is in
-    let type-is : c.new-named.result.usage.t ≡ type_octets c.args.usage = named_type _ c.new-named.ensures c.in-Done-status.is in
+    let type_is : c.new-named.result.usage.t ≡ type_octets c.args.usage = named_type _ c.new-named.ensures c.in-Done-status.is in
     let status_is : let a = c.args in
-    c.read-opened.result ≡ status_answer (Spec.opened a.key a.strength (type_octets a.usage) (region a.start a.len a.buf.now)) =     let a = c.args in
+    c.read-opened.result ≡ status_answer (Spec.opened a.key a.strength (type_octets a.usage) (region a.start a.len a.buf.now)) = let a = c.args in
     let part : a.start + a.len - a.start ≡ a.len = omega arith in
-    read_status a.key a.strength (type_octets a.usage) a.buf.now a.start a.len (inside) (sized).0
-    (a.start + a.len - a.start) _ part (type-is) c.read-opened.ensures.status in
-    let buffer-is : let a = c.args in
-    take a.start a.buf.now ++ (c.read-opened.new.1.1.1.0 ++ drop (a.start + a.len - a.start) (drop a.start a.buf.now))
-    ≡ buffer_after Spec.plain (a.start + 16) a.buf.now (Spec.decryption a.key a.strength a.usage a.buf.now a.start a.len) =     let a = c.args in
+    read_status a.key a.strength (type_octets a.usage) a.buf.now a.start a.len inside sized.0
+    (a.start + a.len - a.start) _ part type_is c.read-opened.ensures.status in
+    let buffer_is : let a = c.args in
+    take a.start a.buf.now ++ (c.read-opened.new.region ++ drop (a.start + a.len - a.start) (drop a.start a.buf.now))
+    ≡ buffer_after Spec.plain (a.start + 16) a.buf.now (Spec.decryption a.key a.strength a.usage a.buf.now a.start a.len) = let a = c.args in
     let part : a.start + a.len - a.start ≡ a.len = omega arith in
-    rw (passed)
-    (read_buffer a.key a.strength (type_octets a.usage) a.buf.now a.start a.len (inside) (sized).0
-    (a.start + a.len - a.start) _ part (type-is) c.read-opened.ensures.octets) in
+    rw passed
+    (read_buffer a.key a.strength (type_octets a.usage) a.buf.now a.start a.len inside sized.0
+    (a.start + a.len - a.start) _ part type_is c.read-opened.ensures.octets) in
     let told = c.by-in_default-opened.ensures in
     let a = c.args in
-    exact_clauses a.key a.strength a.usage a.buf.now a.start a.len bytes
-    (ap (extent_answer Spec.message_length) (sym (passed c ∙ was_refused _ (sym status_is ∙ told)))) buffer-is
+    let all = exact_clauses a.key a.strength a.usage a.buf.now a.start a.len bytes
+    (ap (extent_answer Spec.message_length) (sym (passed ∙ was_refused _ (sym status_is ∙ told)))) buffer_is in
+    record { answer = all.0; buffer = all.1.0; exact = all.1.1 }
 
 pub overflow_sub-result : goal.overflow_sub-result
 overflow_sub-result c =
@@ -109,24 +113,25 @@ returns c =
     Spec.decryption a.key a.strength a.usage a.buf.now a.start a.len ≡ Spec.opened a.key a.strength (type_octets a.usage) (region a.start a.len a.buf.now) =    goes_on _ _ _ c.length-sized.ensures c.in-Done.is
     ∙ goes_on _ _ _ c.region-placed.ensures c.in-Done-placed.is
     ∙ goes_on _ _ _ (named_status _ c.new-named.ensures) c.in-Done-status.is in
-    let type-is : c.new-named.result.usage.t ≡ type_octets c.args.usage = named_type _ c.new-named.ensures c.in-Done-status.is in
+    let type_is : c.new-named.result.usage.t ≡ type_octets c.args.usage = named_type _ c.new-named.ensures c.in-Done-status.is in
     let status_is : let a = c.args in
-    c.read-opened.result ≡ status_answer (Spec.opened a.key a.strength (type_octets a.usage) (region a.start a.len a.buf.now)) =     let a = c.args in
+    c.read-opened.result ≡ status_answer (Spec.opened a.key a.strength (type_octets a.usage) (region a.start a.len a.buf.now)) = let a = c.args in
     let part : a.start + a.len - a.start ≡ a.len = omega arith in
-    read_status a.key a.strength (type_octets a.usage) a.buf.now a.start a.len (inside) (sized).0
-    (a.start + a.len - a.start) _ part (type-is) c.read-opened.ensures.status in
-    let buffer-is : let a = c.args in
-    take a.start a.buf.now ++ (c.read-opened.new.1.1.1.0 ++ drop (a.start + a.len - a.start) (drop a.start a.buf.now))
-    ≡ buffer_after Spec.plain (a.start + 16) a.buf.now (Spec.decryption a.key a.strength a.usage a.buf.now a.start a.len) =     let a = c.args in
+    read_status a.key a.strength (type_octets a.usage) a.buf.now a.start a.len inside sized.0
+    (a.start + a.len - a.start) _ part type_is c.read-opened.ensures.status in
+    let buffer_is : let a = c.args in
+    take a.start a.buf.now ++ (c.read-opened.new.region ++ drop (a.start + a.len - a.start) (drop a.start a.buf.now))
+    ≡ buffer_after Spec.plain (a.start + 16) a.buf.now (Spec.decryption a.key a.strength a.usage a.buf.now a.start a.len) = let a = c.args in
     let part : a.start + a.len - a.start ≡ a.len = omega arith in
-    rw (passed)
-    (read_buffer a.key a.strength (type_octets a.usage) a.buf.now a.start a.len (inside) (sized).0
-    (a.start + a.len - a.start) _ part (type-is) c.read-opened.ensures.octets) in
+    rw passed
+    (read_buffer a.key a.strength (type_octets a.usage) a.buf.now a.start a.len inside sized.0
+    (a.start + a.len - a.start) _ part type_is c.read-opened.ensures.octets) in
     let a = c.args in
-    exact_clauses a.key a.strength a.usage a.buf.now a.start a.len bytes
+    let all = exact_clauses a.key a.strength a.usage a.buf.now a.start a.len bytes
     (rw passed
     (read_length a.key a.strength (type_octets a.usage) a.buf.now a.start a.len inside sized.0 status_is c.in-Done-opened.is))
-    buffer-is
+    buffer_is in
+    record { answer = all.0; buffer = all.1.0; exact = all.1.1 }
 
 pub by-requires : goal.by-requires
 by-requires c = is_refused c.in_default.is

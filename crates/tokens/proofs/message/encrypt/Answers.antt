@@ -18,7 +18,10 @@ unfolding Spec.encryption
 returns-in_default c =
     let told = c.by.ensures in
     let refused = stops _ _ _ c.length-sized.ensures told in
-    (ap (extent_answer length) (sym refused), buffer_refused Spec.all_octets _ _ refused)
+    record {
+      answer = ap (extent_answer length) (sym refused);
+      buffer = buffer_refused Spec.all_octets _ _ refused;
+    }
 
 pub overflow_add-total : goal.overflow_add-total
 overflow_add-total c =
@@ -30,7 +33,10 @@ unfolding Spec.encryption
 returns-in_default-placed c =
     let told = c.by-in_default-placed.ensures in
     let refused = goes_on _ _ _ c.length-sized.ensures c.in-Done.is ∙ stops _ _ _ c.region-placed.ensures told in
-    (ap (extent_answer length) (sym refused), buffer_refused Spec.all_octets _ _ refused)
+    record {
+      answer = ap (extent_answer length) (sym refused);
+      buffer = buffer_refused Spec.all_octets _ _ refused;
+    }
 
 pub returns-in_default-status : goal.returns-in_default-status
 unfolding Spec.encryption
@@ -39,7 +45,10 @@ returns-in_default-status c =
     let refused = goes_on _ _ _ c.length-sized.ensures c.in-Done.is
     ∙ goes_on _ _ _ c.region-placed.ensures c.in-Done-placed.is
     ∙ stops _ _ _ (named_status _ c.new-named.ensures) told in
-    (ap (extent_answer length) (sym refused), buffer_refused Spec.all_octets _ _ refused)
+    record {
+      answer = ap (extent_answer length) (sym refused);
+      buffer = buffer_refused Spec.all_octets _ _ refused;
+    }
 
 pub overflow_add-end : goal.overflow_add-end
 overflow_add-end c =
@@ -66,11 +75,12 @@ returns c =
     let k = a.start + (24 + a.len) - a.start in
     let total : k ≡ 24 + a.len = omega arith in
     let place = inside in
-    let size = eight in (
-      rw (ended, written_length a.key a.strength (type_octets a.usage) a.buf.now a.start a.confounder a.len size place),
-      rw ended
-          (written_buffer a.key a.strength (type_octets a.usage) a.buf.now a.start a.confounder a.len size place k _ total t c.write.ensures),
-    )
+    let size = eight in
+    record {
+      answer = rw (ended, written_length a.key a.strength (type_octets a.usage) a.buf.now a.start a.confounder a.len size place);
+      buffer = rw ended
+          (written_buffer a.key a.strength (type_octets a.usage) a.buf.now a.start a.confounder a.len size place k _ total t c.write.ensures);
+    }
 
 pub by-requires : goal.by-requires
 by-requires c = is_refused c.in_default.is

@@ -11,8 +11,8 @@ use Rattle.tokens.proofs.message.read.Goals as goal
 pub place-requires : goal.place-requires
 place-requires c =
     let sized : length c.unseal-opened.result.confounder ≡ 8 = search rules in
-    let size = sized c in
-    front_fits 16 c.args.region.now c.unseal-opened.new.1.1.1.1.0 c.requires (length c.unseal-opened.result.confounder) 16 (omega arith)
+    let size = sized in
+    front_fits 16 c.args.region.now c.unseal-opened.new.message c.requires (length c.unseal-opened.result.confounder) 16 (omega arith)
 
 pub returns : goal.returns
 returns c =
@@ -20,9 +20,10 @@ returns c =
     let a = c.args in
     let region = a.region.now in
     let sum = c.sixteen.ensures in
-    let confounder = c.eight.ensures in (
-      fields_answer 16 region sum confounder (opened a.key a.strength a.usage.t) status_answer c.unseal-opened.ensures.status,
-      c.place.ensures
-          ∙ confounder_placed 16 region c.unseal-opened.new.1.1.1.1.0 c.requires c.unseal-opened.result.confounder sized
-          ∙ fields_after 16 region sum confounder (opened a.key a.strength a.usage.t) plain c.unseal-opened.ensures.octets,
-    )
+    let confounder = c.eight.ensures in
+    record {
+      status = fields_answer 16 region sum confounder (opened a.key a.strength a.usage.t) status_answer c.unseal-opened.ensures.status;
+      octets = c.place.ensures
+          ∙ confounder_placed 16 region c.unseal-opened.new.message c.requires c.unseal-opened.result.confounder sized
+          ∙ fields_after 16 region sum confounder (opened a.key a.strength a.usage.t) plain c.unseal-opened.ensures.octets;
+    }

@@ -10,32 +10,34 @@ pub returns-in_default : goal.returns-in_default
 returns-in_default c =
     let sized : length c.args.front.checksum ≡ 16 = search rules in
     let ran :    let a = c.args in
-    Run a.key a.strength a.usage.t a.front.checksum (a.front.confounder ++ a.message.now) c.derive-keys.result.k1 c.derive-keys.result.k2 c.of-k3.result (c.run-plain.result ++ c.run-plain.new.1.1.0) =    record {
+    Run a.key a.strength a.usage.t a.front.checksum (a.front.confounder ++ a.message.now) c.derive-keys.result.k1 c.derive-keys.result.k2 c.of-k3.result (c.run-plain.result ++ c.run-plain.new.body) =    record {
       k1_is = c.derive-keys.ensures.0;
       k2_is = c.derive-keys.ensures.1;
       k3_is = c.of-k3.ensures;
       run_is = c.run-plain.ensures;
     } in
-    let g = ran c in
-    let size = sized c in
-    let expected = c.of_two-expected.ensures in (
-      opened_status _ _ _ g size expected c.equal-status.ensures,
-      opened_restored _ _ _ g size expected c.equal-status.ensures c.in_default.is c.run-restored.ensures,
-    )
+    let g = ran in
+    let size = sized in
+    let expected = c.of_two-expected.ensures in
+    record {
+      status = opened_status _ _ _ g size expected c.equal-status.ensures;
+      octets = opened_restored _ _ _ g size expected c.equal-status.ensures c.in_default.is c.run-restored.ensures;
+    }
 
 pub returns : goal.returns
 returns c =
     let sized : length c.args.front.checksum ≡ 16 = search rules in
     let ran :    let a = c.args in
-    Run a.key a.strength a.usage.t a.front.checksum (a.front.confounder ++ a.message.now) c.derive-keys.result.k1 c.derive-keys.result.k2 c.of-k3.result (c.run-plain.result ++ c.run-plain.new.1.1.0) =    record {
+    Run a.key a.strength a.usage.t a.front.checksum (a.front.confounder ++ a.message.now) c.derive-keys.result.k1 c.derive-keys.result.k2 c.of-k3.result (c.run-plain.result ++ c.run-plain.new.body) =    record {
       k1_is = c.derive-keys.ensures.0;
       k2_is = c.derive-keys.ensures.1;
       k3_is = c.of-k3.ensures;
       run_is = c.run-plain.ensures;
     } in
-    let g = ran c in
-    let size = sized c in
-    let expected = c.of_two-expected.ensures in (
-      opened_status _ _ _ g size expected c.equal-status.ensures,
-      opened_plain _ _ _ g size expected c.equal-status.ensures c.in-Done.is,
-    )
+    let g = ran in
+    let size = sized in
+    let expected = c.of_two-expected.ensures in
+    record {
+      status = opened_status _ _ _ g size expected c.equal-status.ensures;
+      octets = opened_plain _ _ _ g size expected c.equal-status.ensures c.in-Done.is;
+    }

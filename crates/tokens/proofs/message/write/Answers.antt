@@ -16,24 +16,24 @@ place-requires c =
     let sizes : (length c.seal-front.result.checksum ≡ 16) × (length c.seal-front.result.confounder ≡ 8) = (search rules, search rules) in
     let region = c.args.region.now in
     let size = sizes.0 in
-    front_fits 16 region c.seal-front.new.1.1.1.1.0 c.requires (length c.seal-front.result.checksum) 0 (omega arith)
+    front_fits 16 region c.seal-front.new.message c.requires (length c.seal-front.result.checksum) 0 (omega arith)
 
 pub place-requires-2 : goal.place-requires-2
 place-requires-2 c =
     let sizes : (length c.seal-front.result.checksum ≡ 16) × (length c.seal-front.result.confounder ≡ 8) = (search rules, search rules) in
     let region = c.args.region.now in
     let size = sizes.1 in
-    let fits = front_fits 16 region c.seal-front.new.1.1.1.1.0 c.requires 8 16 (omega arith) in
-    omega (arith, c.place.auto.0)
+    let fits = front_fits 16 region c.seal-front.new.message c.requires 8 16 (omega arith) in
+    omega (arith, c.place.auto.buf)
 
 pub returns : goal.returns
 returns c =
     let sizes : (length c.seal-front.result.checksum ≡ 16) × (length c.seal-front.result.confounder ≡ 8) = (search rules, search rules) in
     let a = c.args in
     let front = c.seal-front.result in
-    let size = sizes c in
+    let size = sizes in
     c.place-2.ensures
     ∙ ap (placed 16 front.confounder) c.place.ensures
-    ∙ front_placed 16 a.region.now c.seal-front.new.1.1.1.1.0 c.requires front.checksum front.confounder size.0 size.1
+    ∙ front_placed 16 a.region.now c.seal-front.new.message c.requires front.checksum front.confounder size.0 size.1
     ∙ c.seal-front.ensures
     ∙ ap (λ (l : List ℕ). encrypt a.key a.strength a.usage.t (parts a.confounder l)) (rest_of 24 a.region.now)

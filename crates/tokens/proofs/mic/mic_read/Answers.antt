@@ -20,8 +20,9 @@ returns-in_default c =
     let bytes : Octets c.args.buf.now = λ i. (c.shared_slice_known-2-1.given i).fits in
     let told = c.by.ensures in
     let a = c.args in
-    exact_clauses a.context a.«data».now a.buf.now a.start a.len bytes
-    (ap sequence_answer (sym (stops _ _ _ c.length-sized.ensures told)))
+    let all = exact_clauses a.context a.«data».now a.buf.now a.start a.len bytes
+    (ap sequence_answer (sym (stops _ _ _ c.length-sized.ensures told))) in
+    record { answer = all.0; exact = all.1 }
 
 pub returns-in_default-whole : goal.returns-in_default-whole
 unfolding Spec.mic_reading
@@ -29,8 +30,9 @@ returns-in_default-whole c =
     let bytes : Octets c.args.buf.now = λ i. (c.shared_slice_known-2-1.given i).fits in
     let told = c.by-in_default-whole.ensures in
     let a = c.args in
-    exact_clauses a.context a.«data».now a.buf.now a.start a.len bytes
-    (ap sequence_answer (sym (goes_on _ _ _ c.length-sized.ensures c.in-Done.is ∙ stops _ _ _ c.length-whole.ensures told)))
+    let all = exact_clauses a.context a.«data».now a.buf.now a.start a.len bytes
+    (ap sequence_answer (sym (goes_on _ _ _ c.length-sized.ensures c.in-Done.is ∙ stops _ _ _ c.length-whole.ensures told))) in
+    record { answer = all.0; exact = all.1 }
 
 pub returns-in_default-placed : goal.returns-in_default-placed
 unfolding Spec.mic_reading
@@ -38,10 +40,11 @@ returns-in_default-placed c =
     let bytes : Octets c.args.buf.now = λ i. (c.shared_slice_known-2-1.given i).fits in
     let told = c.by-in_default-placed.ensures in
     let a = c.args in
-    exact_clauses a.context a.«data».now a.buf.now a.start a.len bytes
+    let all = exact_clauses a.context a.«data».now a.buf.now a.start a.len bytes
     (ap sequence_answer (sym (goes_on _ _ _ c.length-sized.ensures c.in-Done.is
     ∙ goes_on _ _ _ c.length-whole.ensures c.in-Done-whole.is
-    ∙ stops _ _ _ c.region-placed.ensures told)))
+    ∙ stops _ _ _ c.region-placed.ensures told))) in
+    record { answer = all.0; exact = all.1 }
 
 pub twenty_four-requires : goal.twenty_four-requires
 twenty_four-requires c =
@@ -60,13 +63,14 @@ returns c =
     let size = twenty-four in
     let octets : c.twenty_four.result ≡ region a.start a.len a.buf.now
     = c.twenty_four.ensures ∙ ap (λ (n : ℕ). region a.start n a.buf.now) (sym size) in
-    exact_clauses a.context a.«data».now a.buf.now a.start a.len bytes
+    let all = exact_clauses a.context a.«data».now a.buf.now a.start a.len bytes
     (c.mic_number.ensures
     ∙ ap (λ (l : List ℕ). sequence_answer (Spec.mic_number a.context a.«data».now l)) octets
     ∙ sym (ap sequence_answer
     (goes_on _ _ _ c.length-sized.ensures c.in-Done.is
     ∙ goes_on _ _ _ c.length-whole.ensures c.in-Done-whole.is
-    ∙ goes_on _ _ _ c.region-placed.ensures c.in-Done-placed.is)))
+    ∙ goes_on _ _ _ c.region-placed.ensures c.in-Done-placed.is))) in
+    record { answer = all.0; exact = all.1 }
 
 pub by-requires : goal.by-requires
 by-requires c = is_refused c.in_default.is

@@ -20,14 +20,20 @@ unfolding Spec.mic_writing
 returns-in_default c =
     let told = c.by.ensures in
     let refused = stops _ _ _ c.length-sized.ensures told in
-    (ap (extent_answer length) (sym refused), buffer_refused all_octets _ _ refused)
+    record {
+      answer = ap (extent_answer length) (sym refused);
+      buffer = buffer_refused all_octets _ _ refused;
+    }
 
 pub returns-in_default-placed : goal.returns-in_default-placed
 unfolding Spec.mic_writing
 returns-in_default-placed c =
     let told = c.by-in_default-placed.ensures in
     let refused = goes_on _ _ _ c.length-sized.ensures c.in-Done.is ∙ stops _ _ _ c.region-placed.ensures told in
-    (ap (extent_answer length) (sym refused), buffer_refused all_octets _ _ refused)
+    record {
+      answer = ap (extent_answer length) (sym refused);
+      buffer = buffer_refused all_octets _ _ refused;
+    }
 
 pub place-requires : goal.place-requires
 place-requires c =
@@ -42,10 +48,11 @@ returns c =
     let a = c.args in
     let whole = Spec.mic_token a.context a.sequence a.«data».now in
     let ended : Spec.mic_writing a.context a.sequence a.«data».now a.buf.now a.start ≡ done whole
-    = goes_on _ _ _ c.length-sized.ensures c.in-Done.is ∙ goes_on _ _ _ c.region-placed.ensures c.in-Done-placed.is in (
-      rw (ended, mic_length_lem a.context a.«data».now a.sequence),
-      rw ended (c.place.ensures ∙ ap (λ (l : List ℕ). placed a.start l a.buf.now) token-is),
-    )
+    = goes_on _ _ _ c.length-sized.ensures c.in-Done.is ∙ goes_on _ _ _ c.region-placed.ensures c.in-Done-placed.is in
+    record {
+      answer = rw (ended, mic_length_lem a.context a.«data».now a.sequence);
+      buffer = rw ended (c.place.ensures ∙ ap (λ (l : List ℕ). placed a.start l a.buf.now) token-is);
+    }
 
 pub by-requires : goal.by-requires
 by-requires c = is_refused c.in_default.is

@@ -17,12 +17,13 @@ combined_length : (key : List ℕ) → length (combined key) ≡ length key
 combined_length key = length-map key (λ (octet : ℕ). bit_xor octet 0xf0)
 
 get_d_combined : (key : List ℕ) (i : ℕ) → i < length key → get_or (combined key) i 0 ≡ bit_xor (get_or key i 0) 0xf0
-absurd (omega arith)
+get_d_combined [] i h = absurd (omega arith)
 get_d_combined (x ∷ key) zero h = refl
 get_d_combined (x ∷ key) (suc i) h = get_d_combined key i (omega arith)
 
 one_more : (key : List ℕ) (i : ℕ) → i < length key → set (paste key 0 (combined key) i) i (bit_xor (get_or key i 0) 0xf0) ≡ paste key 0 (combined key) (suc i)
-one_more key i h =     let at : 0 + i ≡ i = omega arith in
+one_more key i h =
+    let at : 0 + i ≡ i = omega arith in
     rw (← get_d_combined key i h)
     (subst (λ (j : ℕ). set (paste key 0 (combined key) i) j (get_or (combined key) i 0) ≡ paste key 0 (combined key) (suc i)) at
     (paste-suc key 0 (combined key) i 0 (omega (arith, combined_length key)) (omega (arith, combined_length key))))

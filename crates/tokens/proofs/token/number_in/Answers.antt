@@ -22,8 +22,8 @@ returns-then-same c =
     let test_is : let a = c.args in c.same.result ≡ same (drop 4 (Spec.field_in a.context a.front)) (Spec.direction a.context.sender) =    let field = c.eight-field.result in
     let eight : length field ≡ 8 = search rules in
     let all : take 4 (drop 4 field) ≡ drop 4 field = take_all 4 (drop 4 field) (rw length-drop (omega arith)) in
-    c.same.ensures ∙ ap₂ same (all ∙ ap (drop 4) (field_is)) c.direction-expected.ensures in
-    rw (← test_is, c.if-same.true, c.number_of_lem.ensures, field_is)
+    c.same.ensures ∙ ap₂ same (all ∙ ap (drop 4) field_is) c.direction-expected.ensures in
+    rw (← test_is, c.if-same.true, c.number_of.ensures, field_is)
 
 pub returns : goal.returns
 unfolding Spec.field_in Spec.number_in require
@@ -34,5 +34,5 @@ returns c =
     let test_is : let a = c.args in c.same.result ≡ same (drop 4 (Spec.field_in a.context a.front)) (Spec.direction a.context.sender) =    let field = c.eight-field.result in
     let eight : length field ≡ 8 = search rules in
     let all : take 4 (drop 4 field) ≡ drop 4 field = take_all 4 (drop 4 field) (rw length-drop (omega arith)) in
-    c.same.ensures ∙ ap₂ same (all ∙ ap (drop 4) (field_is)) c.direction-expected.ensures in
+    c.same.ensures ∙ ap₂ same (all ∙ ap (drop 4) field_is) c.direction-expected.ensures in
     rw (← test_is, c.if-same.false)

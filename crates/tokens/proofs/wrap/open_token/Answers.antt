@@ -13,7 +13,7 @@ place-requires c =
     let sized : length c.open_parts-opened.result.confounder ≡ 8 = search rules in
     let long : 32 ≤ length c.args.region.now = omega (arith, c.requires) in
     let size = sized in
-    front_fits 24 c.args.region.now c.open_parts-opened.new.1.1.1.0 long (length c.open_parts-opened.result.confounder) 24 (omega arith)
+    front_fits 24 c.args.region.now c.open_parts-opened.new.body long (length c.open_parts-opened.result.confounder) 24 (omega arith)
 
 pub returns : goal.returns
 returns c =
@@ -22,9 +22,10 @@ returns c =
     let a = c.args in
     let region = a.region.now in
     let front = c.twenty_four-front.ensures in
-    let came = c.eight-came.ensures in (
-      fields_answer 24 region front came (opened a.context) unwrapped_answer c.open_parts-opened.ensures.answer,
-      c.place.ensures
-          ∙ confounder_placed 24 region c.open_parts-opened.new.1.1.1.0 long c.open_parts-opened.result.confounder sized
-          ∙ fields_after 24 region front came (opened a.context) plain c.open_parts-opened.ensures.octets,
-    )
+    let came = c.eight-came.ensures in
+    record {
+      answer = fields_answer 24 region front came (opened a.context) unwrapped_answer c.open_parts-opened.ensures.answer;
+      octets = c.place.ensures
+          ∙ confounder_placed 24 region c.open_parts-opened.new.body long c.open_parts-opened.result.confounder sized
+          ∙ fields_after 24 region front came (opened a.context) plain c.open_parts-opened.ensures.octets;
+    }

@@ -22,7 +22,8 @@ returns-in_default c =
     let told = c.by.ensures in
     let a = c.args in
     let refused = stops _ _ _ c.length-sized.ensures told in
-    exact_clauses a.context a.buf.now a.start a.len bytes (ap Spec.unwrapped_answer (sym refused)) (buffer_refused Spec.plain _ _ refused)
+    let all = exact_clauses a.context a.buf.now a.start a.len bytes (ap Spec.unwrapped_answer (sym refused)) (buffer_refused Spec.plain _ _ refused) in
+    record { answer = all.0; buffer = all.1.0; exact = all.1.1 }
 
 pub returns-in_default-placed : goal.returns-in_default-placed
 unfolding Spec.wrap_opening
@@ -31,7 +32,8 @@ returns-in_default-placed c =
     let told = c.by-in_default-placed.ensures in
     let a = c.args in
     let refused = goes_on _ _ _ c.length-sized.ensures c.in-Done.is ∙ stops _ _ _ c.region-placed.ensures told in
-    exact_clauses a.context a.buf.now a.start a.len bytes (ap Spec.unwrapped_answer (sym refused)) (buffer_refused Spec.plain _ _ refused)
+    let all = exact_clauses a.context a.buf.now a.start a.len bytes (ap Spec.unwrapped_answer (sym refused)) (buffer_refused Spec.plain _ _ refused) in
+    record { answer = all.0; buffer = all.1.0; exact = all.1.1 }
 
 pub overflow_add-end : goal.overflow_add-end
 overflow_add-end c =
@@ -59,9 +61,10 @@ returns c =
     let a = c.args in
     let k = a.start + a.len - a.start in
     let part : k ≡ a.len = omega arith in
-    exact_clauses a.context a.buf.now a.start a.len bytes
+    let all = exact_clauses a.context a.buf.now a.start a.len bytes
     (rw passed (opened_answer a.context a.buf.now a.start a.len inside sized k part c.open_token.ensures.answer))
-    (rw passed (opened_buffer_lem a.context a.buf.now a.start a.len inside sized k part c.open_token.ensures.octets))
+    (rw passed (opened_buffer_lem a.context a.buf.now a.start a.len inside sized k part c.open_token.ensures.octets)) in
+    record { answer = all.0; buffer = all.1.0; exact = all.1.1 }
 
 pub by-requires : goal.by-requires
 by-requires c = is_refused c.in_default.is

@@ -18,7 +18,10 @@ unfolding Spec.wrap_writing
 returns-in_default c =
     let told = c.by.ensures in
     let refused = stops _ _ _ c.length-sized.ensures told in
-    (ap (extent_answer length) (sym refused), buffer_refused all_octets _ _ refused)
+    record {
+      answer = ap (extent_answer length) (sym refused);
+      buffer = buffer_refused all_octets _ _ refused;
+    }
 
 pub overflow_add-total : goal.overflow_add-total
 overflow_add-total c =
@@ -30,7 +33,10 @@ unfolding Spec.wrap_writing
 returns-in_default-placed c =
     let told = c.by-in_default-placed.ensures in
     let refused = goes_on _ _ _ c.length-sized.ensures c.in-Done.is ∙ stops _ _ _ c.region-placed.ensures told in
-    (ap (extent_answer length) (sym refused), buffer_refused all_octets _ _ refused)
+    record {
+      answer = ap (extent_answer length) (sym refused);
+      buffer = buffer_refused all_octets _ _ refused;
+    }
 
 pub overflow_add-end : goal.overflow_add-end
 overflow_add-end c =
@@ -58,10 +64,11 @@ returns c =
     = goes_on _ _ _ c.length-sized.ensures c.in-Done.is ∙ goes_on _ _ _ c.region-placed.ensures c.in-Done-placed.is in
     let k = a.start + (33 + a.len) - a.start in
     let total : k ≡ 33 + a.len = omega arith in
-    let size = eight in (
-      rw (ended, written_length a.context a.buf.now a.start a.sequence a.sealed a.confounder a.len size inside),
-      rw ended (written_buffer a.context a.buf.now a.start a.sequence a.sealed a.confounder a.len size inside k total c.write_token.ensures),
-    )
+    let size = eight in
+    record {
+      answer = rw (ended, written_length a.context a.buf.now a.start a.sequence a.sealed a.confounder a.len size inside);
+      buffer = rw ended (written_buffer a.context a.buf.now a.start a.sequence a.sealed a.confounder a.len size inside k total c.write_token.ensures);
+    }
 
 pub by-requires : goal.by-requires
 by-requires c = is_refused c.in_default.is

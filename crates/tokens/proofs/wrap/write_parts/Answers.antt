@@ -7,7 +7,7 @@ use borrow.Author.Rules.{rules}
 use Rattle.tokens.proofs.wrap.write_parts.Goals as goal
 
 pub shape_of-body : goal.shape_of-body
-shape_of-body c = c.under_seal.auto.1.1.1.1.0 ∙ length-set c.args.body.now (length c.args.body.now - 1) 1
+shape_of-body c = c.under_seal.auto.body ∙ length-set c.args.body.now (length c.args.body.now - 1) 1
 
 pub returns : goal.returns
 returns c =

@@ -14,7 +14,8 @@ use Rattle.tokens.proofs.wrap.write_token.Goals as goal
 
 message : (region : List ℕ) → 33 ≤ length region
     → take (length (take (length region - 32) (drop 32 region)) - 1) (take (length region - 32) (drop 32 region)) ≡ take (length region - 33) (drop 32 region)
-message region least =     let count : length (drop 32 region) - 1 ≡ length region - 33 = rw length-drop (omega arith) in
+message region least =
+    let count : length (drop 32 region) - 1 ≡ length region - 33 = rw length-drop (omega arith) in
     rw (rest_of 32 region, count)
 
 pub place-requires : goal.place-requires
@@ -22,15 +23,15 @@ place-requires c =
     let sizes : (length c.write_parts-leading.result.front ≡ 24) × (length c.write_parts-leading.result.confounder ≡ 8) = (search rules, search rules) in
     let long : 32 ≤ length c.args.region.now = omega (arith, c.requires) in
     let size = sizes.0 in
-    front_fits 24 c.args.region.now c.write_parts-leading.new.1.1.1.1.0 long (length c.write_parts-leading.result.front) 0 (omega arith)
+    front_fits 24 c.args.region.now c.write_parts-leading.new.body long (length c.write_parts-leading.result.front) 0 (omega arith)
 
 pub place-requires-2 : goal.place-requires-2
 place-requires-2 c =
     let sizes : (length c.write_parts-leading.result.front ≡ 24) × (length c.write_parts-leading.result.confounder ≡ 8) = (search rules, search rules) in
     let long : 32 ≤ length c.args.region.now = omega (arith, c.requires) in
     let size = sizes.1 in
-    let fits = front_fits 24 c.args.region.now c.write_parts-leading.new.1.1.1.1.0 long 8 24 (omega arith) in
-    omega (arith, c.place.auto.0)
+    let fits = front_fits 24 c.args.region.now c.write_parts-leading.new.body long 8 24 (omega arith) in
+    omega (arith, c.place.auto.buf)
 
 pub returns : goal.returns
 returns c =
@@ -41,6 +42,6 @@ returns c =
     let size = sizes in
     c.place-2.ensures
     ∙ ap (placed 24 leading.confounder) c.place.ensures
-    ∙ front_placed 24 a.region.now c.write_parts-leading.new.1.1.1.1.0 long leading.front leading.confounder size.0 size.1
+    ∙ front_placed 24 a.region.now c.write_parts-leading.new.body long leading.front leading.confounder size.0 size.1
     ∙ c.write_parts-leading.ensures
     ∙ ap (λ (l : List ℕ). wrap_token a.context (parts a.sequence a.sealed a.confounder l)) (message a.region.now c.requires)

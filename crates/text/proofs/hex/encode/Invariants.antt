@@ -1,0 +1,16 @@
+-- The digits of the first i octets are written, and behind them `out` is as it came.
+use mathlib.Core.Path.{◌≡◌, refl}
+use mathlib.Core.List.{◌++◌}
+use Prim.Native.Nat.{◌*◌, ◌-◌, ◌≤◌}
+use native.Mathlib.Omega.{arith}
+use lib.ListN.{length, take, drop}
+use lib.Seq.{lt-length-set}
+use Rattle.text.specs.Hex.{digits}
+use Rattle.text.proofs.Digits.{written, none_written, all_written}
+use Rattle.text.proofs.hex.encode.Given as goal
+
+abbrev pub invariant-loop-i : goal.invariant-loop-i
+invariant-loop-i l = (l.i ≤ length l.octets) × (2 * length l.octets ≤ length l.initial.out) × (length l.out ≡ length l.initial.out) × (l.out ≡ digits (take l.i l.octets) ++ drop (2 * l.i) l.initial.out)
+
+abbrev pub decreases-loop-i : goal.decreases-loop-i
+decreases-loop-i l = length l.octets - l.i

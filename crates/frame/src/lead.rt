@@ -30,7 +30,8 @@ fn place(buf: &mut [u8], at: usize, part: &[u8])
     requires { at + length part.now ≤ length buf.old }
     ensures { buf.new ≡ placed at part.now buf.old }
 {
-    bytes::copy(part, &mut buf[at..]);
+    let end = at + part.len();
+    buf[at..end].copy_from_slice(part);
 }
 
 // Writes what stands before a token of n octets, from `start`.

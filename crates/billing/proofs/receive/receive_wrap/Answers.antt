@@ -1,0 +1,14 @@
+-- What the opener promises, and the step of the number that it presents.
+use Rattle.std.proofs.Common.{rules}
+use Rattle.billing.proofs.receive.receive_wrap.Goals as goal
+
+pub returns : goal.returns
+returns c =
+    let opened = c.wrap_open-token.ensures in
+    let presented = c.presented_by.ensures in
+    record {
+      answer = opened.answer;
+      buffer = opened.buffer;
+      exact = opened.exact;
+      billing = rw presented at c.receive.ensures;
+    }

@@ -1,0 +1,11 @@
+-- What is handed out is the answer of the call, and the buffer is as it leaves it.
+use borrow.Author.Rules.{rules}
+use Rattle.rc4hmac.proofs.framed_tokens.rc4hmac_framed_mic_write.Goals as goal
+
+pub returns : goal.returns
+returns c =
+    let call = rw c.context_of-context.ensures at c.framed_mic_write.ensures in
+    record {
+      answer = rw call.0 at c.extent_out.ensures;
+      buffer = call.1;
+    }

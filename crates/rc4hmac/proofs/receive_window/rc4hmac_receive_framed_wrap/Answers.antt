@@ -1,0 +1,17 @@
+-- What is handed out is the answer of the call, the buffer is as it leaves it, and the window and the status are what came of the number;
+-- so the call's demand is met by what is handed out.
+use Rattle.rc4hmac.proofs.Out.{framed_opens_out}
+use borrow.Author.Rules.{rules}
+use Rattle.rc4hmac.proofs.receive_window.rc4hmac_receive_framed_wrap.Goals as goal
+
+pub returns : goal.returns
+returns c =
+    let call = rw (c.context_of-context.ensures, c.window_of-came.ensures) at c.receive_framed_wrap-answer.ensures in
+    let out = c.unwrapped_out.ensures in
+    let billed = c.received_out.ensures in
+    record {
+      answer = rw call.0 at out;
+      buffer = call.1.0;
+      exact = framed_opens_out c.receive_framed_wrap-answer.result.token out call.1.1.0;
+      billing = rw (call.1.1.1, call.0) at billed;
+    }

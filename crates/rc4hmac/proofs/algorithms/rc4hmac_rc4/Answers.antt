@@ -7,4 +7,4 @@ use Rattle.rc4hmac.proofs.algorithms.rc4hmac_rc4.Goals as goal
 pub returns : goal.returns
 returns c =
     let call = c.rc4.ensures in
-    record { refusal = c.number_of_lem.ensures ∙ ap number call.status; octets = call.text_left }
+    record { refusal = c.number_of.ensures ∙ ap number call.status; octets = call.text_left }

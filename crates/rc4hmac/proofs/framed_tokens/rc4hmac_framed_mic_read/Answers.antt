@@ -7,6 +7,6 @@ returns c =
     let call = rw c.context_of-context.ensures at c.framed_mic_read.ensures in
     let out = c.sequence_out.ensures in
     record {
-      answer = rw call.0 at out;
-      exact = rw (out.refusal, out.number) call.1;
+      answer = rw call.answer at out;
+      exact = rw (out.refusal, out.number) call.exact;
     }

@@ -6,6 +6,6 @@ pub returns : goal.returns
 returns c =
     let call = rw c.context_of-context.ensures at c.framed_mic_write.ensures in
     record {
-      answer = rw call.0 at c.extent_out.ensures;
-      buffer = call.1;
+      answer = rw call.answer at c.extent_out.ensures;
+      buffer = call.buffer;
     }

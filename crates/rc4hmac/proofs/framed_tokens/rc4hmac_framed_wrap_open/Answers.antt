@@ -8,7 +8,7 @@ returns c =
     let call = rw c.context_of-context.ensures at c.framed_wrap_open.ensures in
     let out = c.unwrapped_out.ensures in
     record {
-      answer = rw call.0 at out;
-      buffer = call.1.0;
-      exact = framed_opens_out c.framed_wrap_open.result out call.1.1;
+      answer = rw call.answer at out;
+      buffer = call.buffer;
+      exact = framed_opens_out c.framed_wrap_open.result out call.exact;
     }

@@ -8,7 +8,7 @@ returns c =
     let call = rw c.context_of-context.ensures at c.wrap_open.ensures in
     let out = c.unwrapped_out.ensures in
     record {
-      answer = rw call.0 at out;
-      buffer = call.1.0;
-      exact = opens_out c.wrap_open.result out call.1.1;
+      answer = rw call.answer at out;
+      buffer = call.buffer;
+      exact = opens_out c.wrap_open.result out call.exact;
     }

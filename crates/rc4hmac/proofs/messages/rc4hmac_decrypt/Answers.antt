@@ -7,7 +7,7 @@ returns c =
     let call = rw c.strength_of.ensures at c.decrypt.ensures in
     let out = c.extent_out.ensures in
     record {
-      answer = rw call.0 at out;
-      buffer = call.1.0;
-      exact = rw (out.refusal, out.octets) call.1.1;
+      answer = rw call.answer at out;
+      buffer = call.buffer;
+      exact = rw (out.refusal, out.octets) call.exact;
     }

@@ -9,7 +9,7 @@ returns c =
     let out = c.sequence_out.ensures in
     let billed = c.received_out.ensures in
     record {
-      answer = rw call.0 at out;
-      exact = rw (out.refusal, out.number) call.1.0;
-      billing = rw (call.1.1, call.0) at billed;
+      answer = rw call.answer at out;
+      exact = rw (out.refusal, out.number) call.exact;
+      billing = rw (call.billing, call.answer) at billed;
     }

@@ -10,8 +10,8 @@ returns c =
     let out = c.unwrapped_out.ensures in
     let billed = c.received_out.ensures in
     record {
-      answer = rw call.0 at out;
-      buffer = call.1.0;
-      exact = framed_opens_out c.receive_framed_wrap-answer.result.token out call.1.1.0;
-      billing = rw (call.1.1.1, call.0) at billed;
+      answer = rw call.answer at out;
+      buffer = call.buffer;
+      exact = framed_opens_out c.receive_framed_wrap-answer.result.token out call.exact;
+      billing = rw (call.billing, call.answer) at billed;
     }

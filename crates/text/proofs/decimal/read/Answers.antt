@@ -1,12 +1,15 @@
 -- The number that the digits so far say, and the text that is ahead of it.
-use mathlib.Core.Path.{◌≡◌, sym, ◌∙◌}
-use Prim.Native.Nat.{◌+◌, ◌*◌, ◌-◌, ◌≤◌}
+use mathlib.Core.Path.{sym, ◌∙◌}
+use Prim.Native.Nat.{◌+◌, ◌*◌}
 use native.Mathlib.Omega.{arith}
-use lib.ListN.{length, drop}
-use borrow.Author.Rules.{rules}
-use Rattle.text.specs.Decimal.{read}
-use Rattle.text.proofs.Numerals.{read_after, read_empty, read_some, next_digit, no_digit, all_read, too_large}
+use Rattle.text.proofs.Numerals.{read_empty, read_some, next_digit, no_digit, all_read, too_large}
 use Rattle.text.proofs.decimal.read.Goals as goal
+
+pub returns-then-text-eq0 : goal.returns-then-text-eq0
+returns-then-text-eq0 c = sym (read_empty _ c.if-text-eq0.true)
+
+pub loop-i-init : goal.loop-i-init
+loop-i-init c = (omega arith, omega arith, read_some _ (omega arith))
 
 pub returns-then-digit-gt9 : goal.returns-then-digit-gt9
 returns-then-digit-gt9 c =
@@ -15,42 +18,16 @@ returns-then-digit-gt9 c =
 
 pub returns-then-sum-gt-MOST : goal.returns-then-sum-gt-MOST
 returns-then-sum-gt-MOST c =
-    let next : ? = let l = c.loop-i in
-    l.invariant.2 ∙ next_digit l.sum _ l.i (omega arith) c.value-digit.ensures.0 (omega arith) in
     let l = c.loop-i in
-    sym (next ∙ too_large (10 * l.sum + c.value-digit.result) _ (omega arith))
+    let d = c.value-digit in
+    sym (l.invariant.2 ∙ next_digit l.sum _ l.i (omega arith) d.ensures.0 (omega arith) ∙ too_large (10 * l.sum + d.result) _ (omega arith))
+
+pub loop-i-preserved : goal.loop-i-preserved
+loop-i-preserved c =
+    let l = c.loop-i in
+    (omega arith, omega arith, l.invariant.2 ∙ next_digit l.sum _ l.i (omega arith) c.value-digit.ensures.0 (omega arith))
 
 pub returns : goal.returns
 returns c =
     let l = c.loop-i in
     sym (l.invariant.2 ∙ all_read l.sum _ l.i (omega arith) l.invariant.1)
-
-pub returns-then-text-eq0 : goal.returns-then-text-eq0
-returns-then-text-eq0 c = sym (read_empty _ c.if-text-eq0.true)
-
-pub loop-i-init : goal.loop-i-init
-loop-i-init c = (omega arith, omega arith, read_some _ (omega arith))
-
-pub bounds-text-i : goal.bounds-text-i
-bounds-text-i c = omega arith
-
-pub overflow_mul-sum : goal.overflow_mul-sum
-overflow_mul-sum c = omega arith
-
-pub overflow_add-sum : goal.overflow_add-sum
-overflow_add-sum c = omega arith
-
-pub overflow_add-i : goal.overflow_add-i
-overflow_add-i c = omega arith
-
-pub loop-i-smaller : goal.loop-i-smaller
-loop-i-smaller c = omega arith
-
-pub loop-i-preserved : goal.loop-i-preserved
-loop-i-preserved c =
-    let next : ? = let l = c.loop-i in
-    l.invariant.2 ∙ next_digit l.sum _ l.i (omega arith) c.value-digit.ensures.0 (omega arith) in
-    (omega arith, omega arith, next)
-
-pub overflow_cast-result : goal.overflow_cast-result
-overflow_cast-result c = omega arith

@@ -1,10 +1,9 @@
 -- The number that the digits so far say, and the text that is ahead of it.
-use mathlib.Core.Path.{◌≡◌, sym, ◌∙◌}
-use Prim.Native.Nat.{◌+◌, ◌*◌, ◌-◌, ◌≤◌}
-use native.Mathlib.Omega.{arith}
+use mathlib.Core.Path.{◌≡◌}
+use Prim.Native.Nat.{◌-◌, ◌≤◌}
 use lib.ListN.{length, drop}
 use Rattle.text.specs.Decimal.{read}
-use Rattle.text.proofs.Numerals.{read_after, read_empty, read_some, next_digit, no_digit, all_read, too_large}
+use Rattle.text.proofs.Numerals.{read_after}
 use Rattle.text.proofs.decimal.read.Given as goal
 
 abbrev pub invariant-loop-i : goal.invariant-loop-i

@@ -1,10 +1,6 @@
 -- The octets so far are digits, so that all are where those ahead are.
-use mathlib.Core.Path.{◌≡◌, refl, sym, ◌∙◌}
-use Prim.Native.Nat.{◌-◌, ◌≤◌}
+use mathlib.Core.Path.{sym, ◌∙◌}
 use native.Mathlib.Omega.{arith}
-use lib.ListN.{length, drop}
-use borrow.Author.Rules.{rules}
-use Rattle.text.specs.Hex.{are_digits}
 use Rattle.text.proofs.Digits.{next_digit, no_digit, all_digits}
 use Rattle.text.proofs.hex.are_digits.Goals as goal
 
@@ -22,6 +18,3 @@ pub returns : goal.returns
 returns c =
     let l = c.loop-i in
     sym (l.invariant.1 ∙ all_digits _ l.i (omega arith))
-
-pub loop-i-init : goal.loop-i-init
-loop-i-init c = (omega arith, refl)

@@ -1,10 +1,8 @@
 -- The octets so far are digits, so that all are where those ahead are.
-use mathlib.Core.Path.{◌≡◌, refl, sym, ◌∙◌}
+use mathlib.Core.Path.{◌≡◌}
 use Prim.Native.Nat.{◌-◌, ◌≤◌}
-use native.Mathlib.Omega.{arith}
 use lib.ListN.{length, drop}
 use Rattle.text.specs.Hex.{are_digits}
-use Rattle.text.proofs.Digits.{next_digit, no_digit, all_digits}
 use Rattle.text.proofs.hex.are_digits.Given as goal
 
 abbrev pub invariant-loop-i : goal.invariant-loop-i

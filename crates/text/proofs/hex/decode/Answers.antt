@@ -1,33 +1,25 @@
 -- The text is digits, two for each octet of `out`, and what is ahead of it says the octets after those that were read.
-use mathlib.Core.Path.{◌≡◌, refl, sym, ◌∙◌}
-use mathlib.Core.Bool.{true}
-use mathlib.Core.List.{◌++◌}
-use Prim.Native.Nat.{◌+◌, ◌*◌, ◌-◌, ◌≤◌}
+use mathlib.Core.Path.{sym, ◌∙◌}
+use Prim.Native.Nat.{◌+◌, ◌*◌}
 use native.Mathlib.Omega.{arith}
-use lib.ListN.{length, take, drop}
 use borrow.Author.Rules.{rules}
-use borrow.Author.Tests.{not-true, not-false}
-use Rattle.text.specs.Hex.{are_digits, octets_of}
 use Rattle.text.proofs.Digits.{digit_at, read_more, read_all, other_length, other_text, spelled}
 use Rattle.text.proofs.hex.decode.Goals as goal
 
 pub returns-then-text-ne0 : goal.returns-then-text-ne0
 returns-then-text-ne0 c =
-    let all = other_length _ _ (λ e. c.if-text-ne0.true (omega arith)) in
+    let all = other_length c.args.text.now c.args.out.now (λ e. omega arith) in
     record { answer = all.0; octets = all.1 }
 
 pub returns-then-text-out : goal.returns-then-text-out
 returns-then-text-out c =
-    let all = other_length _ _ (λ e. c.if-text-out.true (omega arith)) in
+    let all = other_length c.args.text.now c.args.out.now (λ e. omega arith) in
     record { answer = all.0; octets = all.1 }
 
 pub returns-then-not-are_digits : goal.returns-then-not-are_digits
 returns-then-not-are_digits c =
-    let all = other_text _ _ (omega arith) (sym c.are_digits.ensures ∙ not-true _ c.if-not-are_digits.true) in
+    let all = other_text c.args.text.now c.args.out.now (omega arith) (sym c.are_digits.ensures ∙ c.if-not-are_digits.true) in
     record { answer = all.0; octets = all.1 }
-
-pub loop-i-init : goal.loop-i-init
-loop-i-init c = (omega arith, refl, omega arith, sym c.are_digits.ensures ∙ not-false _ c.if-not-are_digits.false, refl)
 
 pub overflow_mul-out : goal.overflow_mul-out
 overflow_mul-out c =
@@ -52,29 +44,5 @@ loop-i-preserved c =
 pub returns : goal.returns
 returns c =
     let l = c.loop-i in
-    let all = spelled _ _ l.invariant.2 l.invariant.3 (read_all _ l.out l.i l.invariant.4 (omega arith) (omega arith)) in
+    let all = spelled c.args.text.now c.args.out.now l.invariant.2 l.invariant.3 (read_all _ l.out l.i l.invariant.4 (omega arith) (omega arith)) in
     record { answer = all.0; octets = all.1 }
-
-pub overflow_mul-i : goal.overflow_mul-i
-overflow_mul-i c = omega arith
-
-pub bounds-text-i : goal.bounds-text-i
-bounds-text-i c = omega arith
-
-pub overflow_mul-i-in-loop-i : goal.overflow_mul-i-in-loop-i
-overflow_mul-i-in-loop-i c = omega arith
-
-pub overflow_add-i : goal.overflow_add-i
-overflow_add-i c = omega arith
-
-pub bounds-text-i-in-loop-i : goal.bounds-text-i-in-loop-i
-bounds-text-i-in-loop-i c = omega arith
-
-pub bounds-out-i : goal.bounds-out-i
-bounds-out-i c = omega arith
-
-pub overflow_add-i-in-loop-i : goal.overflow_add-i-in-loop-i
-overflow_add-i-in-loop-i c = omega arith
-
-pub loop-i-smaller : goal.loop-i-smaller
-loop-i-smaller c = omega arith

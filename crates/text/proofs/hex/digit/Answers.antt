@@ -1,5 +1,4 @@
 -- The two ranges of digits in turn.
-use borrow.Author.Rules.{rules}
 use borrow.Author.Tests.{lt-ltb, le-ltb}
 use Rattle.text.proofs.hex.digit.Goals as goal
 

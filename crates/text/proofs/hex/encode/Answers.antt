@@ -1,9 +1,7 @@
 -- The digits of the first i octets are written, and behind them `out` is as it came.
-use mathlib.Core.Path.{◌≡◌, refl}
-use mathlib.Core.List.{◌++◌}
-use Prim.Native.Nat.{◌*◌, ◌-◌, ◌≤◌}
+use mathlib.Core.Path.{refl}
+use Prim.Native.Nat.{◌*◌}
 use native.Mathlib.Omega.{arith}
-use lib.ListN.{length, take, drop}
 use lib.Seq.{lt-length-set}
 use borrow.Author.Rules.{rules}
 use Rattle.text.specs.Hex.{digits}
@@ -21,9 +19,6 @@ returns-then-out-octets c =
 pub loop-i-init : goal.loop-i-init
 unfolding digits
 loop-i-init c = (omega arith, omega arith, refl, refl)
-
-pub digit-requires : goal.digit-requires
-digit-requires c = omega (arith, c.shared_slice_known-in-loop-i-1.given c.loop-i.i)
 
 pub bounds-out-i-in-loop-i : goal.bounds-out-i-in-loop-i
 bounds-out-i-in-loop-i c =
@@ -43,24 +38,3 @@ returns c =
       count = (all.0, omega arith);
       digits = all.1;
     }
-
-pub bounds-octets-i : goal.bounds-octets-i
-bounds-octets-i c = omega arith
-
-pub overflow_mul-out : goal.overflow_mul-out
-overflow_mul-out c = omega arith
-
-pub overflow_mul-out-in-loop-i : goal.overflow_mul-out-in-loop-i
-overflow_mul-out-in-loop-i c = omega arith
-
-pub overflow_add-out : goal.overflow_add-out
-overflow_add-out c = omega arith
-
-pub overflow_add-i : goal.overflow_add-i
-overflow_add-i c = omega arith
-
-pub loop-i-smaller : goal.loop-i-smaller
-loop-i-smaller c = omega arith
-
-pub overflow_mul-result : goal.overflow_mul-result
-overflow_mul-result c = omega arith

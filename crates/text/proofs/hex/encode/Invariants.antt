@@ -1,12 +1,9 @@
 -- The digits of the first i octets are written, and behind them `out` is as it came.
-use mathlib.Core.Path.{◌≡◌, refl}
+use mathlib.Core.Path.{◌≡◌}
 use mathlib.Core.List.{◌++◌}
 use Prim.Native.Nat.{◌*◌, ◌-◌, ◌≤◌}
-use native.Mathlib.Omega.{arith}
 use lib.ListN.{length, take, drop}
-use lib.Seq.{lt-length-set}
 use Rattle.text.specs.Hex.{digits}
-use Rattle.text.proofs.Digits.{written, none_written, all_written}
 use Rattle.text.proofs.hex.encode.Given as goal
 
 abbrev pub invariant-loop-i : goal.invariant-loop-i

@@ -2,7 +2,6 @@
 use mathlib.Core.Path.{sym, ap}
 use lib.ListN.{length}
 use native.Mathlib.Omega.{arith}
-use borrow.Author.Rules.{rules}
 use Rattle.text.proofs.Characters.{utf8_one, utf8_two, utf8_three, utf8_four}
 use Rattle.text.proofs.utf8.encoded.Goals as goal
 

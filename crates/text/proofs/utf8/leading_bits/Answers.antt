@@ -1,7 +1,6 @@
 -- Each of the four shapes of a first octet.
 use mathlib.Core.Path.{sym}
 use native.Mathlib.Omega.{arith}
-use borrow.Author.Rules.{rules}
 use Rattle.text.proofs.Characters.{one_octet, two_octets, three_octets, four_octets}
 use Rattle.text.proofs.utf8.leading_bits.Goals as goal
 

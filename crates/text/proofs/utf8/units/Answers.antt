@@ -1,52 +1,24 @@
 -- The octets before i were read. Each way out has its law in `proofs/Texts.antt`.
 use mathlib.Core.Path.{◌≡◌, sym, ap, ◌∙◌}
-use mathlib.Core.Logic.{⊎_elim}
 use mathlib.Core.List.{List}
-use Prim.Native.Nat.{ℕ, ◌-◌}
+use Prim.Native.Nat.{ℕ, ◌-◌, ◌≤◌}
 use native.Mathlib.Omega.{arith}
-use lib.ListN.{length, drop}
-use borrow.Author.Rules.{rules}
+use lib.ListN.{length, take, drop}
 use Rattle.text.specs.Utf8.{character_in}
+use Rattle.text.specs.declared.utf8.Character.{Character}
 use Rattle.text.specs.declared.utf8.Character.TheVariants.{Number}
 use Rattle.text.proofs.Texts as Law
 use Rattle.text.proofs.utf8.units.Goals as goal
+use Rattle.text.proofs.utf8.units.Goals.{then-value-lt65536, else-value-lt65536}
+
+-- what was read of the octets that were lent is at the front of those ahead
+ahead : (text : List ℕ) (i : ℕ) {found answer : Character} → found ≡ answer → found ≡ character_in (take (length text - i) (drop i text)) → character_in (drop i text) ≡ answer
+ahead text i e f = sym (f ∙ ap character_in (Law.all_ahead text i)) ∙ e
 
 -- it is a character
-module _ (c : tie.After-found invariant-loop decreases-loop) where
-  abbrev at-loop : tie.At-loop invariant-loop decreases-loop
-  at-loop = c.before.before.before.before.before
-
-  abbrev width : ℕ
-  width = c.found.given.0.0
-
-  abbrev value : ℕ
-  value = c.found.given.0.1.0
-
-  number : character_in (drop at-loop.loop.i (text at-loop)) ≡ Number width value
-  number = sym (said c.before.before) ∙ c.found.given.1
-
-  next : Law.Next (text at-loop) at-loop.loop.i width value
-  next = Law.next at-loop.loop.inv (omega arith) number
-
-pub returns-in_default : goal.returns-in_default
-returns-in_default c =
-    let text : ? = c.args.text.now in
-    let said : ? = c.character_in-found.ensures ∙ ap character_in (Law.all_ahead text c.loop-i.i) in
-    record {
-      exact = Law.not_utf8 c.loop-i.invariant (omega arith) (omega arith) (sym said ∙ c.in_default.is) c.no_units-in_default.ensures;
-      count = Law.none_counted _ c.no_units-in_default.ensures;
-    }
-
-pub bounds-units-n-else-value-lt65536-2 : goal.bounds-units-n-else-value-lt65536-2
-bounds-units-n-else-value-lt65536-2 c = let x = next c in omega (arith, x.inside, x.two (omega arith))
-
-pub loop-i-preserved : goal.loop-i-preserved
-loop-i-preserved c =
-    let r = (at-loop c).loop.invariant in
-    ⊎_elim
-    (λ came. rw (came.1, came.2) (Law.reads_one r (omega arith) (number c) came.0.taken))
-    (λ came. rw (came.3, came.4) (Law.reads_two r (omega arith) (number c) came.0.left came.1.ensures came.2.ensures))
-    c.if-value-lt65536.branch
+next : {text units : List ℕ} {n i w v : ℕ} {found : Character} → Law.Reads text units n i → length text ≤ 1024 → found ≡ Number w v
+    → found ≡ character_in (take (length text - i) (drop i text)) → Law.Next text i w v
+next {text} {i} r most e f = Law.next r most (ahead text i e f)
 
 pub returns-then-text-gt-MOST : goal.returns-then-text-gt-MOST
 returns-then-text-gt-MOST c =
@@ -58,53 +30,46 @@ returns-then-text-gt-MOST c =
 pub loop-i-init : goal.loop-i-init
 loop-i-init c = Law.reads_none _
 
-pub slice_bounds-character_in-count : goal.slice_bounds-character_in-count
-slice_bounds-character_in-count c = omega arith
-
-pub slice_bounds-character_in-start : goal.slice_bounds-character_in-start
-slice_bounds-character_in-start c = omega arith
-
-pub slice_bounds-character_in-end : goal.slice_bounds-character_in-end
-slice_bounds-character_in-end c = omega arith
-
-pub overflow_cast-units : goal.overflow_cast-units
-overflow_cast-units c = omega arith
-
-pub offset_bounds-units-n : goal.offset_bounds-units-n
-offset_bounds-units-n c = omega arith
-
-pub bounds-units-n : goal.bounds-units-n
-bounds-units-n c = omega arith
-
-pub overflow_add-n : goal.overflow_add-n
-overflow_add-n c = omega arith
+pub returns-in_default : goal.returns-in_default
+returns-in_default c =
+    record {
+      exact = Law.not_utf8 c.loop-i.invariant (omega arith) (omega arith) (ahead c.args.text.now c.loop-i.i c.in_default.is c.character_in-found.ensures) c.no_units-in_default.ensures;
+      count = Law.none_counted _ c.no_units-in_default.ensures;
+    }
 
 pub high_unit-requires : goal.high_unit-requires
-high_unit-requires c = (omega arith, (next c).below)
-
-pub offset_bounds-units-n-else-value-lt65536 : goal.offset_bounds-units-n-else-value-lt65536
-offset_bounds-units-n-else-value-lt65536 c = omega arith
-
-pub bounds-units-n-else-value-lt65536 : goal.bounds-units-n-else-value-lt65536
-bounds-units-n-else-value-lt65536 c = omega arith
+high_unit-requires c =
+    let x = next c.loop-i.invariant (omega arith) c.in-Number.is c.character_in-found.ensures in
+    (omega arith, x.below)
 
 pub low_unit-requires : goal.low_unit-requires
-low_unit-requires c = (omega arith, (next c).below)
+low_unit-requires c =
+    let x = next c.loop-i.invariant (omega arith) c.in-Number.is c.character_in-found.ensures in
+    (omega arith, x.below)
 
-pub overflow_add-units : goal.overflow_add-units
-overflow_add-units c = omega arith
-
-pub offset_bounds-units-n-else-value-lt65536-2 : goal.offset_bounds-units-n-else-value-lt65536-2
-offset_bounds-units-n-else-value-lt65536-2 c = omega arith
-
-pub overflow_add-n-else-value-lt65536 : goal.overflow_add-n-else-value-lt65536
-overflow_add-n-else-value-lt65536 c = omega arith
+pub bounds-units-n-else-value-lt65536-2 : goal.bounds-units-n-else-value-lt65536-2
+bounds-units-n-else-value-lt65536-2 c =
+    let x = next c.loop-i.invariant (omega arith) c.in-Number.is c.character_in-found.ensures in
+    omega (arith, x.inside, x.two (omega arith))
 
 pub overflow_add-i : goal.overflow_add-i
-overflow_add-i c = omega (arith, (next c).inside)
+overflow_add-i c =
+    let x = next c.loop-i.invariant (omega arith) c.in-Number.is c.character_in-found.ensures in
+    omega (arith, x.inside)
 
 pub loop-i-smaller : goal.loop-i-smaller
-loop-i-smaller c = omega (arith, (next c).inside, (next c).some)
+loop-i-smaller c =
+    let x = next c.loop-i.invariant (omega arith) c.in-Number.is c.character_in-found.ensures in
+    omega (arith, x.inside, x.some)
+
+pub loop-i-preserved : goal.loop-i-preserved
+loop-i-preserved c =
+    let number = ahead c.args.text.now c.loop-i.i c.in-Number.is c.character_in-found.ensures in
+    elim c.if-value-lt65536.branch [
+      | then-value-lt65536 w ↦ rw (w.units-is, w.n-is) (Law.reads_one c.loop-i.invariant (omega arith) number w.if-value-lt65536.true)
+      | else-value-lt65536 w ↦
+          rw (w.units-is, w.n-is) (Law.reads_two c.loop-i.invariant (omega arith) number w.if-value-lt65536.false w.high_unit.ensures w.low_unit.ensures)
+    ]
 
 pub returns : goal.returns
 returns c =

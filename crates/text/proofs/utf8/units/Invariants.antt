@@ -1,12 +1,6 @@
 -- The octets before i were read. Each way out has its law in `proofs/Texts.antt`.
-use mathlib.Core.Path.{◌≡◌, sym, ap, ◌∙◌}
-use mathlib.Core.Logic.{⊎_elim}
-use mathlib.Core.List.{List}
-use Prim.Native.Nat.{ℕ, ◌-◌}
-use native.Mathlib.Omega.{arith}
-use lib.ListN.{length, drop}
-use Rattle.text.specs.Utf8.{character_in}
-use Rattle.text.specs.declared.utf8.Character.TheVariants.{Number}
+use Prim.Native.Nat.{◌-◌}
+use lib.ListN.{length}
 use Rattle.text.proofs.Texts as Law
 use Rattle.text.proofs.utf8.units.Given as goal
 

@@ -1,9 +1,8 @@
 -- The number of the first i octets, and the octets after them. Six bits more with each keep it below a bound for each i.
-use mathlib.Core.Path.{◌≡◌, sym, ap, ◌∙◌}
-use Prim.Native.Nat.{ℕ, ◌+◌, ◌*◌, ◌-◌, ◌≤◌, ◌<◌}
+use mathlib.Core.Path.{sym, ap, ◌∙◌}
+use Prim.Native.Nat.{ℕ, ◌+◌, ◌*◌}
 use native.Mathlib.Omega.{arith}
-use lib.ListN.{length, drop}
-use borrow.Author.Rules.{rules}
+use lib.ListN.{drop}
 use Rattle.text.specs.Utf8.{value, value_after}
 use Rattle.text.proofs.Characters.{value_next, value_all}
 use Rattle.text.proofs.utf8.value.Goals as goal
@@ -37,15 +36,3 @@ pub returns : goal.returns
 returns c =
     let l = c.loop-i in
     sym (l.invariant.5 ∙ value_all l.value _ l.i (omega arith))
-
-pub bounds-octets-0 : goal.bounds-octets-0
-bounds-octets-0 c = omega arith
-
-pub bounds-octets-i : goal.bounds-octets-i
-bounds-octets-i c = omega arith
-
-pub overflow_add-i : goal.overflow_add-i
-overflow_add-i c = omega arith
-
-pub loop-i-smaller : goal.loop-i-smaller
-loop-i-smaller c = omega arith

@@ -1,5 +1,4 @@
 -- The answer of the comparison.
-use borrow.Author.Rules.{rules}
 use Rattle.text.specs.Words.{ascii, is_framed}
 use Rattle.text.proofs.words.is_framed.Goals as goal
 

@@ -1,6 +1,5 @@
 -- The two words in turn.
 use mathlib.Core.Path.{sym, ◌∙◌}
-use borrow.Author.Rules.{rules}
 use Rattle.text.specs.Words.{ascii, sealing_of}
 use Rattle.text.proofs.words.sealing_of.Goals as goal
 

@@ -110,6 +110,7 @@ fn verify_file(rt: HostRuntime, context: Context, file: File, at: usize) -> Exit
     let Ending::Whole = ending else {
         return no_token(rt, ending);
     };
+    drop(file);
     let FramedWord::Is(framed) = arguments::framed(rt, at) else {
         return Exit::WrongUse;
     };

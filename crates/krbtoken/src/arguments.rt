@@ -1,10 +1,15 @@
 // The words of the command line, each by its place. A word that is wrong is told on standard error; it is never repeated there, since
 // it may be a key.
-ghost use Rattle.std.specs.Prelude.{◌≤◌};
+ghost use Rattle.std.specs.Prelude.{◌≤◌, length};
 
 use crate::exit::Exit;
 use crate::input::Ending;
 use crate::{help, input, output};
+use std::env::FillError;
+use std::fs::File;
+use std::io;
+use std::io::ErrorKind;
+use std::rt::Env;
 use text::decimal::Number;
 use text::words::{SealingWord, SenderWord, StrengthWord, Verb};
 use text::{decimal, hex, words};
@@ -40,17 +45,63 @@ pub enum FramedWord {
     Wrong,
 }
 
+// The most octets of a word that are looked at. A path is shorter.
+const WORD: usize = 4096;
+
+// The system's number for a path that is too long.
+const NAME_TOO_LONG: i32 = 36;
+
+// Puts the word at `at` at the front of a buffer, and answers how many octets that are: none if there is no such word. Of a word that
+// is longer than the buffer they are the first.
+fn read_word(rt: HostRuntime, at: usize, buf: &mut [u8]) -> usize
+    ensures { result ≤ length buf.new }
+{
+    match rt.arg(at, buf) {
+        Ok(n) => n,
+        Err(FillError::TooLong) => buf.len(),
+        Err(FillError::NotPresent) => 0,
+    }
+}
+
+// Whether there is a word at `at`.
+fn is_there(rt: HostRuntime, at: usize) -> bool {
+    !matches!(rt.arg(at, &mut []), Err(FillError::NotPresent))
+}
+
+// How many words there are, with the program's name.
+fn word_count(rt: HostRuntime) -> usize {
+    for n in 0..usize::MAX {
+        if !is_there(rt, n) {
+            return n;
+        }
+    }
+    usize::MAX
+}
+
+// Opens the file that the word at `at` names, for reading. A path is taken only if it is UTF-8.
+pub fn open(rt: HostRuntime, at: usize) -> io::Result<File> {
+    let mut word = [0u8; WORD];
+    let n = read_word(rt, at, &mut word);
+    if n == WORD {
+        return Err(io::Error::from_raw_os_error(NAME_TOO_LONG));
+    }
+    match str::from_utf8(&word[..n]) {
+        Ok(path) => File::open(&rt, path),
+        Err(_) => Err(io::Error::from(ErrorKind::InvalidFilename)),
+    }
+}
+
 // Whether the word at `at` asks for the status.
-pub fn asks_status(at: usize) -> bool {
-    let mut word = io::buffer();
-    let n = os::arg(at, &mut word);
+pub fn asks_status(rt: HostRuntime, at: usize) -> bool {
+    let mut word = [0u8; WORD];
+    let n = read_word(rt, at, &mut word);
     checks::same(&word[..n], b"--status")
 }
 
 // The verb, at `at`.
-pub fn verb(at: usize) -> Verb {
-    let mut word = io::buffer();
-    let n = os::arg(at, &mut word);
+pub fn verb(rt: HostRuntime, at: usize) -> Verb {
+    let mut word = [0u8; WORD];
+    let n = read_word(rt, at, &mut word);
     words::verb_of(&word[..n])
 }
 
@@ -81,8 +132,8 @@ fn count(verb: Verb) -> Taken {
 }
 
 // How many words stand after the one at `at`.
-fn words_after(at: usize) -> usize {
-    let all = os::arg_count();
+fn words_after(rt: HostRuntime, at: usize) -> usize {
+    let all = word_count(rt);
     if all <= at {
         return 0;
     }
@@ -90,72 +141,76 @@ fn words_after(at: usize) -> usize {
 }
 
 // Whether as many words stand after the verb at `at` as it takes.
-pub fn counted(verb: Verb, at: usize) -> Exit {
-    let given = words_after(at);
+pub fn counted(rt: HostRuntime, verb: Verb, at: usize) -> Exit {
+    let given = words_after(rt, at);
     let taken = count(verb);
     if given < taken.least {
-        return help::wrong_count(verb);
+        return help::wrong_count(rt, verb);
     }
     if taken.most < given {
-        return help::wrong_count(verb);
+        return help::wrong_count(rt, verb);
     }
     Exit::Done
 }
 
-pub fn strength(at: usize) -> StrengthWord {
-    let mut word = io::buffer();
-    let n = os::arg(at, &mut word);
+pub fn strength(rt: HostRuntime, at: usize) -> StrengthWord {
+    let mut word = [0u8; WORD];
+    let n = read_word(rt, at, &mut word);
     let strength = words::strength_of(&word[..n]);
     if let StrengthWord::Wrong = strength {
-        output::wrong_use(b"the strength is wrong: expected full or export");
+        output::wrong_use(rt, b"the strength is wrong: expected full or export");
     }
     strength
 }
 
-pub fn sender(at: usize) -> SenderWord {
-    let mut word = io::buffer();
-    let n = os::arg(at, &mut word);
+pub fn sender(rt: HostRuntime, at: usize) -> SenderWord {
+    let mut word = [0u8; WORD];
+    let n = read_word(rt, at, &mut word);
     let sender = words::sender_of(&word[..n]);
     if let SenderWord::Wrong = sender {
-        output::wrong_use(b"the sender is wrong: expected initiator or acceptor");
+        output::wrong_use(rt, b"the sender is wrong: expected initiator or acceptor");
     }
     sender
 }
 
-pub fn sealing(at: usize) -> SealingWord {
-    let mut word = io::buffer();
-    let n = os::arg(at, &mut word);
+pub fn sealing(rt: HostRuntime, at: usize) -> SealingWord {
+    let mut word = [0u8; WORD];
+    let n = read_word(rt, at, &mut word);
     let sealing = words::sealing_of(&word[..n]);
     if let SealingWord::Wrong = sealing {
-        output::wrong_use(b"the word for sealing is wrong: expected sealed or clear");
+        output::wrong_use(
+            rt,
+            b"the word for sealing is wrong: expected sealed or clear",
+        );
     }
     sealing
 }
 
 // Whether the last word, at `at`, is there and says framed.
-pub fn framed(at: usize) -> FramedWord {
-    if os::arg_count() <= at {
+pub fn framed(rt: HostRuntime, at: usize) -> FramedWord {
+    if !is_there(rt, at) {
         return FramedWord::Is(false);
     }
-    let mut word = io::buffer();
-    let n = os::arg(at, &mut word);
+    let mut word = [0u8; WORD];
+    let n = read_word(rt, at, &mut word);
     if words::is_framed(&word[..n]) {
         return FramedWord::Is(true);
     }
-    output::wrong_use(b"the last word is wrong: expected framed, or nothing");
+    output::wrong_use(rt, b"the last word is wrong: expected framed, or nothing");
     FramedWord::Wrong
 }
 
-fn number(at: usize) -> Number {
-    let mut word = io::buffer();
-    let n = os::arg(at, &mut word);
+fn number(rt: HostRuntime, at: usize) -> Number {
+    let mut word = [0u8; WORD];
+    let n = read_word(rt, at, &mut word);
     decimal::read(&word[..n])
 }
 
-pub fn sequence(at: usize) -> Number {
-    let sequence = number(at);
+pub fn sequence(rt: HostRuntime, at: usize) -> Number {
+    let sequence = number(rt, at);
     if let Number::Wrong = sequence {
         output::wrong_use(
+            rt,
             b"the sequence number is wrong: expected a whole number from 0 to 4294967295, in decimal",
         );
     }
@@ -163,21 +218,27 @@ pub fn sequence(at: usize) -> Number {
 }
 
 // A usage. Which numbers are usages is left to the library.
-pub fn usage(at: usize) -> Number {
-    let usage = number(at);
+pub fn usage(rt: HostRuntime, at: usize) -> Number {
+    let usage = number(rt, at);
     if let Number::Wrong = usage {
-        output::wrong_use(b"the usage is wrong: expected a whole number from 1 to 15, in decimal");
+        output::wrong_use(
+            rt,
+            b"the usage is wrong: expected a whole number from 1 to 15, in decimal",
+        );
     }
     usage
 }
 
-pub fn confounder(at: usize) -> ConfounderWord {
-    let mut word = io::buffer();
-    let n = os::arg(at, &mut word);
+pub fn confounder(rt: HostRuntime, at: usize) -> ConfounderWord {
+    let mut word = [0u8; WORD];
+    let n = read_word(rt, at, &mut word);
     let mut octets = [0u8; 8];
     let is_right = hex::decode(&word[..n], &mut octets);
     if !is_right {
-        output::wrong_use(b"the confounder is wrong: expected 16 hexadecimal digits");
+        output::wrong_use(
+            rt,
+            b"the confounder is wrong: expected 16 hexadecimal digits",
+        );
     }
     ConfounderWord {
         is_right: is_right,
@@ -186,12 +247,13 @@ pub fn confounder(at: usize) -> ConfounderWord {
 }
 
 // The key that a text says: 32 digits, and at most one newline after them.
-fn key_in(text: &[u8]) -> KeyWord {
+fn key_in(rt: HostRuntime, text: &[u8]) -> KeyWord {
     let n = input::without_newline(text);
     let mut octets = [0u8; 16];
     let is_right = hex::decode(&text[..n], &mut octets);
     if !is_right {
         output::wrong_use(
+            rt,
             b"the key file is wrong: expected 32 hexadecimal digits and at most one newline after them",
         );
     }
@@ -201,8 +263,12 @@ fn key_in(text: &[u8]) -> KeyWord {
     }
 }
 
-fn no_key() -> KeyWord {
-    os::fail(b"krbtoken: the key file can't be read, expected 32 hexadecimal digits");
+fn no_key(rt: HostRuntime, error: io::Error) -> KeyWord {
+    output::fail(
+        rt,
+        b"the key file can't be read, expected 32 hexadecimal digits",
+        error,
+    );
     KeyWord {
         is_right: false,
         octets: [0u8; 16],
@@ -210,22 +276,19 @@ fn no_key() -> KeyWord {
 }
 
 // The key in the file that the word at `at` names.
-pub fn key(at: usize) -> KeyWord {
-    let mut path = io::buffer();
-    let n = os::arg(at, &mut path);
-    let fd = os::open_read(&path[..n]);
-    if fd < 0 {
-        return no_key();
-    }
+pub fn key(rt: HostRuntime, at: usize) -> KeyWord {
+    let mut file = match open(rt, at) {
+        Ok(file) => file,
+        Err(error) => return no_key(rt, error),
+    };
     let mut text = [0u8; 64];
-    let read = input::read(fd, &mut text);
+    let read = input::read(&mut file, &mut text);
     let ending = read.ending;
-    if let Ending::Failed = ending {
-        return no_key();
+    if let Ending::Failed(error) = ending {
+        return no_key(rt, error);
     }
-    libc::close(fd);
     let count = read.count;
-    key_in(&text[..count])
+    key_in(rt, &text[..count])
 }
 
 fn no_context() -> ContextWords {
@@ -240,17 +303,17 @@ fn no_context() -> ContextWords {
 }
 
 // The key, the strength and the sender in the three words from `at`.
-pub fn context(at: usize) -> ContextWords
+pub fn context(rt: HostRuntime, at: usize) -> ContextWords
     requires { at ≤ 3 }
 {
-    let key = key(at);
+    let key = key(rt, at);
     if !key.is_right {
         return no_context();
     }
-    let StrengthWord::Is(strength) = strength(at + 1) else {
+    let StrengthWord::Is(strength) = strength(rt, at + 1) else {
         return no_context();
     };
-    let SenderWord::Is(sender) = sender(at + 2) else {
+    let SenderWord::Is(sender) = sender(rt, at + 2) else {
         return no_context();
     };
     let octets = key.octets;

@@ -14,7 +14,6 @@ use billing::status::Status;
 use billing::window::Window;
 use frame::capture;
 use frame::capture::Next;
-use libc::STDIN_FILENO;
 use text::decimal::Number;
 use tokens::answer::{Refusal, Unwrapped};
 use tokens::context::Context;
@@ -65,16 +64,16 @@ fn place_words(place: u64) -> Line {
 }
 
 // Writes the totals.
-fn totals(bill: Billing) -> Exit {
+fn totals(rt: HostRuntime, bill: Billing) -> Exit {
     let window = bill.window;
     let missing = window.missing() as u64;
-    let Exit::Done = output::line(Line::new().text(b"billed ").number(window.billed)) else {
+    let Exit::Done = output::line(rt, Line::new().text(b"billed ").number(window.billed)) else {
         return Exit::WrongUse;
     };
-    let Exit::Done = output::line(Line::new().text(b"missing ").number(missing)) else {
+    let Exit::Done = output::line(rt, Line::new().text(b"missing ").number(missing)) else {
         return Exit::WrongUse;
     };
-    output::line(Line::new().text(b"refused ").number(bill.refused))
+    output::line(rt, Line::new().text(b"refused ").number(bill.refused))
 }
 
 // The line of a token that opened.
@@ -105,13 +104,20 @@ fn one_refused(bill: Billing) -> Billing
     Billing {
         window: as_before,
         place: bill.place,
-        refused: std::num::wrapping_add_u64(bill.refused, 1),
+        refused: bill.refused.wrapping_add(1),
     }
 }
 
 // Receives the framed token of n octets from `at`, and writes its line. The window is what `receive_framed_wrap` makes of it: the number
 // of a token that opened is billed, and a refused token leaves the window as it was.
-fn bill_token(bill: Billing, context: Context, buf: &mut [u8], at: usize, n: usize) -> Step
+fn bill_token(
+    rt: HostRuntime,
+    bill: Billing,
+    context: Context,
+    buf: &mut [u8],
+    at: usize,
+    n: usize,
+) -> Step
     ensures { result.bill.window ≡ (received bill.window (presented_by (unwrapped_answer (framed_wrap_opening context buf.old at n)))).window }
 {
     let before = bill.window;
@@ -132,11 +138,14 @@ fn bill_token(bill: Billing, context: Context, buf: &mut [u8], at: usize, n: usi
             length,
         } => Step {
             bill: billed,
-            exit: output::line(record_line(bill.place, status, sequence, sealed, length)),
+            exit: output::line(
+                rt,
+                record_line(bill.place, status, sequence, sealed, length),
+            ),
         },
         Unwrapped::Refused(refusal) => Step {
             bill: one_refused(billed),
-            exit: output::line(output::refusal(place_words(bill.place), refusal)),
+            exit: output::line(rt, output::refusal(place_words(bill.place), refusal)),
         },
     }
 }
@@ -148,18 +157,18 @@ fn after(bill: Billing, n: usize) -> Billing
     let window = bill.window;
     Billing {
         window: window,
-        place: std::num::wrapping_add_u64(bill.place, n as u64),
+        place: bill.place.wrapping_add(n as u64),
         refused: bill.refused,
     }
 }
 
 // Ends the billing at a fault of a frame.
-fn fault(bill: Billing) -> Exit {
+fn fault(rt: HostRuntime, bill: Billing) -> Exit {
     let line = output::refusal(place_words(bill.place), Refusal::Frame);
-    let Exit::Done = output::line(line.text(b"; what follows can't be told apart")) else {
+    let Exit::Done = output::line(rt, line.text(b"; what follows can't be told apart")) else {
         return Exit::WrongUse;
     };
-    let Exit::Done = totals(one_refused(bill)) else {
+    let Exit::Done = totals(rt, one_refused(bill)) else {
         return Exit::WrongUse;
     };
     Exit::Refused
@@ -169,25 +178,20 @@ fn fault(bill: Billing) -> Exit {
 fn to_front(buf: &mut [u8], at: usize, end: usize)
     requires { (at ≤ end) × (end ≤ length buf.old) }
 {
-    if at == 0 {
-        return;
-    }
-    let mut i: usize = at;
-    while i < end {
-        buf[i - at] = buf[i];
-        i += 1;
+    if 0 < at {
+        buf.copy_within(at..end, 0);
     }
 }
 
 // Moves the octets that are held, from `at` to `end`, to the front of the buffer, and reads what there is after them, as far as it fits. It
 // does not wait for more than the next octets, so that a token is billed, and a fault is told, while a pipe is still open.
-fn refill(buf: &mut [u8], at: usize, end: usize) -> Refilled
+fn refill(rt: HostRuntime, buf: &mut [u8], at: usize, end: usize) -> Refilled
     requires { (at ≤ end) × (end ≤ length buf.old) }
     ensures { result.end ≤ length buf.new }
 {
     to_front(buf, at, end);
     let kept = end - at;
-    let read = input::read_some(STDIN_FILENO, &mut buf[kept..]);
+    let read = input::read_some(&mut rt.stdin(), &mut buf[kept..]);
     let ending = read.ending;
     Refilled {
         end: kept + read.count,
@@ -206,22 +210,20 @@ fn is_last(ended: bool, at: usize, end: usize, size: usize) -> bool {
     false
 }
 
-// Bills standard input through a buffer. A proved loop has to end, and nothing says that a capture does: it counts its turns down from
-// a number that no capture uses up.
-fn bill_input(context: Context, begun: Billing, buf: &mut [u8]) -> Exit
+// Bills standard input through a buffer. A proved loop has to end, and nothing says that a capture does: it takes at most as many
+// turns as no capture uses up.
+fn bill_input(rt: HostRuntime, context: Context, begun: Billing, buf: &mut [u8]) -> Exit
     requires { length buf.old ≤ 131264 }
 {
     let mut bill = begun;
     let mut at: usize = 0;
     let mut end: usize = 0;
     let mut ended = false;
-    let mut turns = u64::MAX;
-    while 0 < turns {
-        turns -= 1;
+    for _ in 0..u64::MAX {
         let last = is_last(ended, at, end, buf.len());
         match capture::next_frame(&buf[at..end], last) {
             Next::Frame(n) => {
-                let step = bill_token(bill, context, buf, at, n);
+                let step = bill_token(rt, bill, context, buf, at, n);
                 let exit = step.exit;
                 let Exit::Done = exit else {
                     return Exit::WrongUse;
@@ -231,30 +233,30 @@ fn bill_input(context: Context, begun: Billing, buf: &mut [u8]) -> Exit
                 at += n;
             }
             Next::More => {
-                let refilled = refill(buf, at, end);
+                let refilled = refill(rt, buf, at, end);
                 let ending = refilled.ending;
-                if let Ending::Failed = ending {
-                    return input::unreadable();
+                if let Ending::Failed(error) = ending {
+                    return input::unreadable(rt, error);
                 }
                 at = 0;
                 end = refilled.end;
                 ended = input::is_whole(ending);
             }
-            Next::End => return totals(bill),
-            Next::Fault => return fault(bill),
+            Next::End => return totals(rt, bill),
+            Next::Fault => return fault(rt, bill),
         }
     }
-    totals(bill)
+    totals(rt, bill)
 }
 
-pub fn bill(at: usize) -> Exit
+pub fn bill(rt: HostRuntime, at: usize) -> Exit
     requires { at ≤ 2 }
 {
-    let given = arguments::context(at + 1);
+    let given = arguments::context(rt, at + 1);
     if !given.is_right {
         return Exit::WrongUse;
     }
-    let Number::Value(first) = arguments::sequence(at + 4) else {
+    let Number::Value(first) = arguments::sequence(rt, at + 4) else {
         return Exit::WrongUse;
     };
     let context = given.context;
@@ -264,5 +266,5 @@ pub fn bill(at: usize) -> Exit
         refused: 0,
     };
     let mut buf = [0u8; BUFFER];
-    bill_input(context, begun, &mut buf)
+    bill_input(rt, context, begun, &mut buf)
 }

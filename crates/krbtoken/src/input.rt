@@ -1,9 +1,10 @@
 // What is read: standard input and files, to their ends.
-ghost use Rattle.io.specs.Counts.{IsPrefixLen};
+ghost use Rattle.std.specs.Prelude.{◌≤◌, length};
 
 use crate::exit::Exit;
 use crate::output;
-use libc::STDIN_FILENO;
+use std::io;
+use std::io::Read;
 
 // Octets of a buffer for a token, a message or data: one more than the most that is read.
 pub const BUFFER: usize = 65537;
@@ -13,7 +14,7 @@ pub const BUFFER: usize = 65537;
 pub enum Ending {
     Whole,
     Full,
-    Failed,
+    Failed(io::Error),
     Some,
 }
 
@@ -32,13 +33,13 @@ pub struct StandardInput {
 }
 
 // Reads until the input ends or the buffer is full.
-pub fn read(fd: i32, buf: &mut [u8]) -> Input
-    ensures { IsPrefixLen result.count buf.new }
+pub fn read(from: &mut impl Read, buf: &mut [u8]) -> Input
+    ensures { result.count ≤ length buf.new }
 {
     let mut n: usize = 0;
     while n < buf.len() {
-        let got = libc::read(fd, &mut buf[n..]);
-        let more = io::count(got, &buf[n..]);
+        let got = from.read(&mut buf[n..]);
+        let more = got.unwrap_or(0);
         if more == 0 {
             return Input {
                 count: n,
@@ -54,11 +55,11 @@ pub fn read(fd: i32, buf: &mut [u8]) -> Input
 }
 
 // Reads what there is, of which there may be more later.
-pub fn read_some(fd: i32, buf: &mut [u8]) -> Input
-    ensures { IsPrefixLen result.count buf.new }
+pub fn read_some(from: &mut impl Read, buf: &mut [u8]) -> Input
+    ensures { result.count ≤ length buf.new }
 {
-    let got = libc::read(fd, buf);
-    let n = io::count(got, buf);
+    let got = from.read(buf);
+    let n = got.unwrap_or(0);
     if n == 0 {
         return Input {
             count: 0,
@@ -80,30 +81,32 @@ pub fn is_whole(ending: Ending) -> bool {
 }
 
 // How a read that gave no octets ended.
-fn ending_of(got: isize) -> Ending {
-    if got < 0 {
-        return Ending::Failed;
+fn ending_of(got: io::Result<usize>) -> Ending {
+    match got {
+        Ok(_) => Ending::Whole,
+        Err(error) => Ending::Failed(error),
     }
-    Ending::Whole
 }
 
 // Says that standard input can't be read.
-pub fn unreadable() -> Exit {
-    os::fail(b"krbtoken: standard input can't be read");
-    Exit::WrongUse
+pub fn unreadable(rt: HostRuntime, error: io::Error) -> Exit {
+    output::fail(rt, b"standard input can't be read", error)
 }
 
 // Reads standard input, of at most 65,536 octets, and if that can't be done says so.
-pub fn standard(buf: &mut [u8]) -> StandardInput
-    ensures { IsPrefixLen result.count buf.new }
+pub fn standard(rt: HostRuntime, buf: &mut [u8]) -> StandardInput
+    ensures { result.count ≤ length buf.new }
 {
-    let input = read(STDIN_FILENO, buf);
+    let input = read(&mut rt.stdin(), buf);
     let ending = input.ending;
     if let Ending::Full = ending {
-        output::wrong_use(b"standard input is too long: expected at most 65536 octets");
+        output::wrong_use(
+            rt,
+            b"standard input is too long: expected at most 65536 octets",
+        );
     }
-    if let Ending::Failed = ending {
-        unreadable();
+    if let Ending::Failed(error) = ending {
+        unreadable(rt, error);
     }
     StandardInput {
         count: input.count,
@@ -113,7 +116,7 @@ pub fn standard(buf: &mut [u8]) -> StandardInput
 
 // How many octets a text has without one closing newline.
 pub fn without_newline(text: &[u8]) -> usize
-    ensures { IsPrefixLen result text.now }
+    ensures { result ≤ length text.now }
 {
     let n = text.len();
     if n == 0 {

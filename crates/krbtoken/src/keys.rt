@@ -4,7 +4,6 @@ ghost use Rattle.std.specs.Prelude.{◌≤◌};
 use crate::exit::Exit;
 use crate::input::Ending;
 use crate::{arguments, input, output};
-use libc::STDIN_FILENO;
 use text::decimal::Number;
 use text::utf8;
 use text::utf8::Reading;
@@ -14,58 +13,61 @@ use tokens::{checksum, key};
 // Octets of the longest password with a newline after it, and one more.
 const PASSWORD_BUFFER: usize = 1026;
 
-fn digest(answer: Digest) -> Exit {
+fn digest(rt: HostRuntime, answer: Digest) -> Exit {
     let status = answer.status;
     let octets = answer.octets;
     match status {
-        Status::Done => output::digits(&octets),
-        Status::Refused(refusal) => output::refused(refusal),
+        Status::Done => output::digits(rt, &octets),
+        Status::Refused(refusal) => output::refused(rt, refusal),
     }
 }
 
 // Prints the key of a password, which ends before one closing newline.
-fn print_key(line: &[u8]) -> Exit {
+fn print_key(rt: HostRuntime, line: &[u8]) -> Exit {
     let end = input::without_newline(line);
     let text = utf8::units(&line[..end]);
     let n = text.count;
     let units = text.units;
     let reading = text.reading;
     match reading {
-        Reading::Units => digest(key::password_key(&units[..n])),
-        Reading::NotUtf8 => output::wrong_use(b"the password is wrong: expected UTF-8"),
+        Reading::Units => digest(rt, key::password_key(&units[..n])),
+        Reading::NotUtf8 => output::wrong_use(rt, b"the password is wrong: expected UTF-8"),
         Reading::TooLong => {
-            output::wrong_use(b"standard input is too long: expected at most 1024 octets")
+            output::wrong_use(
+                rt,
+                b"standard input is too long: expected at most 1024 octets",
+            )
         }
     }
 }
 
-pub fn key() -> Exit {
+pub fn key(rt: HostRuntime) -> Exit {
     let mut buf = [0u8; PASSWORD_BUFFER];
-    let read = input::read(STDIN_FILENO, &mut buf);
+    let read = input::read(&mut rt.stdin(), &mut buf);
     let ending = read.ending;
-    if let Ending::Failed = ending {
-        return input::unreadable();
+    if let Ending::Failed(error) = ending {
+        return input::unreadable(rt, error);
     }
     let count = read.count;
-    print_key(&buf[..count])
+    print_key(rt, &buf[..count])
 }
 
-pub fn checksum(at: usize) -> Exit
+pub fn checksum(rt: HostRuntime, at: usize) -> Exit
     requires { at ≤ 2 }
 {
-    let key = arguments::key(at + 1);
+    let key = arguments::key(rt, at + 1);
     if !key.is_right {
         return Exit::WrongUse;
     }
-    let Number::Value(usage) = arguments::usage(at + 2) else {
+    let Number::Value(usage) = arguments::usage(rt, at + 2) else {
         return Exit::WrongUse;
     };
     let mut buf = [0u8; input::BUFFER];
-    let read = input::standard(&mut buf);
+    let read = input::standard(rt, &mut buf);
     if !read.is_whole {
         return Exit::WrongUse;
     }
     let count = read.count;
     let octets = key.octets;
-    digest(checksum::checksum(octets, usage, &buf[..count]))
+    digest(rt, checksum::checksum(octets, usage, &buf[..count]))
 }

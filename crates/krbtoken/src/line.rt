@@ -1,4 +1,8 @@
 // A line that is put together before it is written, so that it is written at once.
+ghost use Rattle.std.specs.Prelude.{◌≤◌};
+
+use std::fmt::Write;
+use std::{fmt, io};
 
 // The most octets of a line; no line of this program has more than 200.
 const MOST: usize = 256;
@@ -8,6 +12,15 @@ const MOST: usize = 256;
 pub struct Line {
     octets: [u8; 256],
     length: usize,
+    ghost fits: { length ≤ 256 },
+}
+
+// Text is put after the line so far, as far as it fits, and so no write fails.
+impl fmt::Write for Line {
+    fn write_str(&mut self, text: &str) -> fmt::Result {
+        *self = self.text(text.as_bytes());
+        Ok(())
+    }
 }
 
 impl Line {
@@ -21,41 +34,41 @@ impl Line {
     // The line with a text after it.
     pub fn text(self, text: &[u8]) -> Line {
         let mut octets = self.octets;
-        let mut length = self.length;
-        let mut i: usize = 0;
-        while i < text.len() {
-            if MOST <= length {
-                break;
-            }
-            octets[length] = text[i];
-            length += 1;
-            i += 1;
-        }
+        let start = self.length;
+        let end = start + text.len().min(MOST - start);
+        octets[start..end].copy_from_slice(&text[..end - start]);
         Line {
             octets: octets,
-            length: length,
+            length: end,
         }
     }
 
     // The line with a number in decimal after it.
     pub fn number(self, number: u64) -> Line {
-        let mut digits = [0u8; 20];
-        let n = io::decimal(number, &mut digits);
-        self.text(&digits[..n])
+        let mut line = self;
+        let _ = write!(line, "{number}");
+        line
     }
 
-    // Writes the line as it is, and answers whether all was written.
-    fn send(self, fd: i32) -> bool {
-        let octets = self.octets;
-        let n = self.length;
-        if MOST < n {
-            return false;
+    // The line with the system's words for an error after it. After a system's words `io::Error` has their number, which is left out.
+    pub fn error(self, error: io::Error) -> Line {
+        let mut words = Line::new();
+        let _ = write!(words, "{error}");
+        let mut number = Line::new();
+        if let Some(code) = error.raw_os_error() {
+            let _ = write!(number, " (os error {code})");
         }
-        io::write_all(fd, &octets[..n])
+        let length = words.length.saturating_sub(number.length);
+        self.text(&words.octets[..length])
     }
 
-    // Writes the line and a newline, and answers whether all was written.
-    pub fn write(self, fd: i32) -> bool {
-        self.text(b"\n").send(fd)
+    // Writes the line as it is.
+    fn send(self, to: &impl Print) -> io::Result<()> {
+        to.write_all(&self.octets[..self.length])
+    }
+
+    // Writes the line and a newline.
+    pub fn write(self, to: &impl Print) -> io::Result<()> {
+        self.text(b"\n").send(to)
     }
 }

@@ -16,41 +16,40 @@ mod wrap_tokens;
 ghost use Rattle.std.specs.Prelude.{◌≤◌};
 
 use exit::Exit;
+use std::process::ExitCode;
 use text::words::Verb;
 
-// The descriptor on which the status is written, where it is asked for.
-const STATUS_FILENO: i32 = 3;
-
 // Does what the word at `at` and those after it ask for.
-fn run(at: usize) -> Exit
+fn run(rt: HostRuntime, at: usize) -> Exit
     requires { at ≤ 2 }
 {
-    let verb = arguments::verb(at);
-    let Exit::Done = arguments::counted(verb, at) else {
+    let verb = arguments::verb(rt, at);
+    let Exit::Done = arguments::counted(rt, verb, at) else {
         return Exit::WrongUse;
     };
     match verb {
-        Verb::Key => keys::key(),
-        Verb::Open => wrap_tokens::open(at),
-        Verb::Wrap => wrap_tokens::wrap(at),
-        Verb::Verify => mic_tokens::verify(at),
-        Verb::Mic => mic_tokens::mic(at),
-        Verb::Decrypt => messages::decrypt(at),
-        Verb::Encrypt => messages::encrypt(at),
-        Verb::Checksum => keys::checksum(at),
-        Verb::Bill => bill::bill(at),
-        Verb::Help => help::help(),
+        Verb::Key => keys::key(rt),
+        Verb::Open => wrap_tokens::open(rt, at),
+        Verb::Wrap => wrap_tokens::wrap(rt, at),
+        Verb::Verify => mic_tokens::verify(rt, at),
+        Verb::Mic => mic_tokens::mic(rt, at),
+        Verb::Decrypt => messages::decrypt(rt, at),
+        Verb::Encrypt => messages::encrypt(rt, at),
+        Verb::Checksum => keys::checksum(rt, at),
+        Verb::Bill => bill::bill(rt, at),
+        Verb::Help => help::help(rt),
         Verb::Unknown => output::wrong_use(
+            rt,
             b"the verb is missing or unknown: expected key, open, wrap, verify, mic, decrypt, encrypt, checksum, bill or help",
         ),
     }
 }
 
-// With `--status` as its first word, the program writes 0, 1 or 2 on descriptor 3 when it ends, since it can't exit with it.
-fn main() {
-    if arguments::asks_status(1) {
-        io::print_decimal(STATUS_FILENO, run(2).number());
-    } else {
-        run(1);
+// With `--status` as its first word, the program ends with the status 0, 1 or 2, and without it always with 0.
+fn main(rt: HostRuntime) -> ExitCode {
+    if arguments::asks_status(rt, 1) {
+        return ExitCode::from(run(rt, 2).number());
     }
+    run(rt, 1);
+    ExitCode::SUCCESS
 }

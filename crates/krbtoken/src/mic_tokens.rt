@@ -7,6 +7,7 @@ use crate::input::Ending;
 use crate::line::Line;
 use crate::{arguments, input, output};
 use frame::mic as framed_mic;
+use std::fs::File;
 use text::decimal::Number;
 use tokens::answer::{Extent, Sequence};
 use tokens::context::Context;
@@ -24,35 +25,35 @@ fn write(context: Context, sequence: u32, framed: bool, data: &[u8], buf: &mut [
 }
 
 // Writes the token over standard input.
-fn mic_input(context: Context, sequence: u32, framed: bool) -> Exit {
+fn mic_input(rt: HostRuntime, context: Context, sequence: u32, framed: bool) -> Exit {
     let mut data = [0u8; input::BUFFER];
-    let read = input::standard(&mut data);
+    let read = input::standard(rt, &mut data);
     if !read.is_whole {
         return Exit::WrongUse;
     }
     let n = read.count;
     let mut token = [0u8; TOKEN];
     match write(context, sequence, framed, &data[..n], &mut token) {
-        Extent::Octets(total) => output::region(&token, 0, total),
-        Extent::Refused(refusal) => output::refused(refusal),
+        Extent::Octets(total) => output::region(rt, &token, 0, total),
+        Extent::Refused(refusal) => output::refused(rt, refusal),
     }
 }
 
-pub fn mic(at: usize) -> Exit
+pub fn mic(rt: HostRuntime, at: usize) -> Exit
     requires { at ≤ 2 }
 {
-    let given = arguments::context(at + 1);
+    let given = arguments::context(rt, at + 1);
     if !given.is_right {
         return Exit::WrongUse;
     }
-    let Number::Value(sequence) = arguments::sequence(at + 4) else {
+    let Number::Value(sequence) = arguments::sequence(rt, at + 4) else {
         return Exit::WrongUse;
     };
-    let FramedWord::Is(framed) = arguments::framed(at + 5) else {
+    let FramedWord::Is(framed) = arguments::framed(rt, at + 5) else {
         return Exit::WrongUse;
     };
     let context = given.context;
-    mic_input(context, sequence, framed)
+    mic_input(rt, context, sequence, framed)
 }
 
 // Reads a token.
@@ -65,64 +66,68 @@ fn read(context: Context, framed: bool, data: &[u8], token: &[u8]) -> Sequence {
 }
 
 // Writes the sequence number that was read, or the refusal.
-fn print(answer: Sequence) -> Exit {
+fn print(rt: HostRuntime, answer: Sequence) -> Exit {
     match answer {
         Sequence::Number(sequence) => {
-            output::line(Line::new().text(b"sequence ").number(sequence as u64))
+            output::line(rt, Line::new().text(b"sequence ").number(sequence as u64))
         }
-        Sequence::Refused(refusal) => output::refused(refusal),
+        Sequence::Refused(refusal) => output::refused(rt, refusal),
     }
 }
 
 // Reads the token over standard input.
-fn verify_input(context: Context, framed: bool, token: &[u8]) -> Exit {
+fn verify_input(rt: HostRuntime, context: Context, framed: bool, token: &[u8]) -> Exit {
     let mut data = [0u8; input::BUFFER];
-    let read = input::standard(&mut data);
+    let read = input::standard(rt, &mut data);
     if !read.is_whole {
         return Exit::WrongUse;
     }
     let n = read.count;
-    print(self::read(context, framed, &data[..n], token))
+    print(rt, self::read(context, framed, &data[..n], token))
 }
 
 // Says why the token file can't be used.
-fn no_token(ending: Ending) -> Exit {
-    if let Ending::Full = ending {
-        return output::wrong_use(b"the token file is too long: expected at most 65536 octets");
-    }
-    os::fail(b"krbtoken: the token file can't be read, expected a MIC token");
-    Exit::WrongUse
+fn no_token(rt: HostRuntime, ending: Ending) -> Exit {
+    let Ending::Failed(error) = ending else {
+        return output::wrong_use(
+            rt,
+            b"the token file is too long: expected at most 65536 octets",
+        );
+    };
+    output::fail(
+        rt,
+        b"the token file can't be read, expected a MIC token",
+        error,
+    )
 }
 
 // Reads the token in a file over standard input. The word at `at` says whether it is framed.
-fn verify_file(context: Context, fd: i32, at: usize) -> Exit {
+fn verify_file(rt: HostRuntime, context: Context, file: File, at: usize) -> Exit {
     let mut token = [0u8; input::BUFFER];
-    let read = input::read(fd, &mut token);
+    let mut file = file;
+    let read = input::read(&mut file, &mut token);
     let ending = read.ending;
     let Ending::Whole = ending else {
-        return no_token(ending);
+        return no_token(rt, ending);
     };
-    libc::close(fd);
-    let FramedWord::Is(framed) = arguments::framed(at) else {
+    drop(file);
+    let FramedWord::Is(framed) = arguments::framed(rt, at) else {
         return Exit::WrongUse;
     };
     let n = read.count;
-    verify_input(context, framed, &token[..n])
+    verify_input(rt, context, framed, &token[..n])
 }
 
-pub fn verify(at: usize) -> Exit
+pub fn verify(rt: HostRuntime, at: usize) -> Exit
     requires { at ≤ 2 }
 {
-    let given = arguments::context(at + 1);
+    let given = arguments::context(rt, at + 1);
     if !given.is_right {
         return Exit::WrongUse;
     }
-    let mut path = io::buffer();
-    let n = os::arg(at + 4, &mut path);
-    let fd = os::open_read(&path[..n]);
-    if fd < 0 {
-        return no_token(Ending::Failed);
-    }
     let context = given.context;
-    verify_file(context, fd, at + 5)
+    match arguments::open(rt, at + 4) {
+        Ok(file) => verify_file(rt, context, file, at + 5),
+        Err(error) => no_token(rt, Ending::Failed(error)),
+    }
 }

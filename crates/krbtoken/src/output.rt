@@ -1,7 +1,7 @@
 // What is written: results on standard output, refusals there too, and wrong use on standard error.
 use crate::exit::Exit;
 use crate::line::Line;
-use libc::{STDERR_FILENO, STDOUT_FILENO};
+use std::io;
 use text::hex;
 use tokens::answer::{Refusal, Status};
 use tokens::checks;
@@ -9,27 +9,40 @@ use tokens::checks;
 // Digits of the longest input that is read.
 const MOST_DIGITS: usize = 131072;
 
-// Says on standard error what is wrong and what was expected.
-pub fn wrong_use(what: &[u8]) -> Exit {
-    Line::new()
-        .text(b"krbtoken: ")
-        .text(what)
-        .write(STDERR_FILENO);
+// Writes a line on standard error. If that can't be done, there is nobody left to tell.
+pub fn tell(rt: HostRuntime, line: Line) -> Exit {
+    let _ = line.write(&rt.stderr());
     Exit::WrongUse
+}
+
+// Says on standard error what is wrong and what was expected.
+pub fn wrong_use(rt: HostRuntime, what: &[u8]) -> Exit {
+    tell(rt, Line::new().text(b"krbtoken: ").text(what))
+}
+
+// Says on standard error what can't be done, and the system's words for why.
+pub fn fail(rt: HostRuntime, what: &[u8], error: io::Error) -> Exit {
+    tell(
+        rt,
+        Line::new()
+            .text(b"krbtoken: ")
+            .text(what)
+            .text(b": ")
+            .error(error),
+    )
 }
 
 // Whether all was written; if not, says so.
-fn written(done: bool) -> Exit {
-    if done {
-        return Exit::Done;
+fn written(rt: HostRuntime, done: io::Result<()>) -> Exit {
+    match done {
+        Ok(()) => Exit::Done,
+        Err(error) => fail(rt, b"standard output can't be written", error),
     }
-    os::fail(b"krbtoken: standard output can't be written");
-    Exit::WrongUse
 }
 
 // Writes a line.
-pub fn line(line: Line) -> Exit {
-    written(line.write(STDOUT_FILENO))
+pub fn line(rt: HostRuntime, line: Line) -> Exit {
+    written(rt, line.write(&rt.stdout()))
 }
 
 // What a refusal means, after the line so far.
@@ -61,50 +74,50 @@ pub fn refusal(line: Line, refusal: Refusal) -> Line {
 }
 
 // Writes the line of a refusal.
-pub fn refused(refusal: Refusal) -> Exit {
-    let Exit::Done = self::line(self::refusal(Line::new(), refusal)) else {
+pub fn refused(rt: HostRuntime, refusal: Refusal) -> Exit {
+    let Exit::Done = self::line(rt, self::refusal(Line::new(), refusal)) else {
         return Exit::WrongUse;
     };
     Exit::Refused
 }
 
 // Writes the octets of a region as they are.
-pub fn region(buf: &[u8], start: usize, n: usize) -> Exit {
+pub fn region(rt: HostRuntime, buf: &[u8], start: usize, n: usize) -> Exit {
     let Status::Done = checks::region(start, n, buf.len()) else {
-        return refused(Refusal::Region);
+        return refused(rt, Refusal::Region);
     };
     let end = start + n;
-    written(io::write_all(STDOUT_FILENO, &buf[start..end]))
+    written(rt, rt.write_all(&buf[start..end]))
 }
 
-// Writes octets in hexadecimal and a newline, and answers whether all was written.
-fn write_digits(octets: &[u8]) -> bool {
+// Writes octets in hexadecimal and a newline.
+fn write_digits(rt: HostRuntime, octets: &[u8]) -> io::Result<()> {
     let mut digits = [0u8; MOST_DIGITS];
     let n = hex::encode(octets, &mut digits);
-    if io::write_all(STDOUT_FILENO, &digits[..n]) {
-        return io::write_all(STDOUT_FILENO, b"\n");
-    }
-    false
+    rt.write_all(&digits[..n])?;
+    rt.write_all(b"\n")
 }
 
 // Writes a line of octets in hexadecimal.
-pub fn digits(octets: &[u8]) -> Exit {
-    written(write_digits(octets))
+pub fn digits(rt: HostRuntime, octets: &[u8]) -> Exit {
+    written(rt, write_digits(rt, octets))
+}
+
+// Writes a name, a blank, octets in hexadecimal and a newline.
+fn write_named(rt: HostRuntime, name: &[u8], octets: &[u8]) -> io::Result<()> {
+    rt.write_all(name)?;
+    rt.write_all(b" ")?;
+    write_digits(rt, octets)
 }
 
 // Writes a line: a name and, after a blank, the octets of a region in hexadecimal. If there are none, there is no blank.
-pub fn named_digits(name: &[u8], buf: &[u8], start: usize, n: usize) -> Exit {
+pub fn named_digits(rt: HostRuntime, name: &[u8], buf: &[u8], start: usize, n: usize) -> Exit {
     if n == 0 {
-        return line(Line::new().text(name));
+        return line(rt, Line::new().text(name));
     }
     let Status::Done = checks::region(start, n, buf.len()) else {
-        return refused(Refusal::Region);
+        return refused(rt, Refusal::Region);
     };
     let end = start + n;
-    if io::write_all(STDOUT_FILENO, name) {
-        if io::write_all(STDOUT_FILENO, b" ") {
-            return digits(&buf[start..end]);
-        }
-    }
-    written(false)
+    written(rt, write_named(rt, name, &buf[start..end]))
 }

@@ -72,39 +72,39 @@ fn write(
 }
 
 // Writes the token of standard input in a buffer.
-fn wrap_input(context: Context, parts: Parts, framed: bool, buf: &mut [u8]) -> Exit
+fn wrap_input(rt: HostRuntime, context: Context, parts: Parts, framed: bool, buf: &mut [u8]) -> Exit
     requires { 64 ≤ length buf.old }
 {
-    let read = input::standard(&mut buf[MESSAGE_AT..]);
+    let read = input::standard(rt, &mut buf[MESSAGE_AT..]);
     if !read.is_whole {
         return Exit::WrongUse;
     }
     let n = read.count;
     let start = token_start(framed, n);
     match write(context, parts, framed, buf, start, n) {
-        Extent::Octets(total) => output::region(buf, start, total),
-        Extent::Refused(refusal) => output::refused(refusal),
+        Extent::Octets(total) => output::region(rt, buf, start, total),
+        Extent::Refused(refusal) => output::refused(rt, refusal),
     }
 }
 
-pub fn wrap(at: usize) -> Exit
+pub fn wrap(rt: HostRuntime, at: usize) -> Exit
     requires { at ≤ 2 }
 {
-    let given = arguments::context(at + 1);
+    let given = arguments::context(rt, at + 1);
     if !given.is_right {
         return Exit::WrongUse;
     }
-    let Number::Value(sequence) = arguments::sequence(at + 4) else {
+    let Number::Value(sequence) = arguments::sequence(rt, at + 4) else {
         return Exit::WrongUse;
     };
-    let confounder = arguments::confounder(at + 5);
+    let confounder = arguments::confounder(rt, at + 5);
     if !confounder.is_right {
         return Exit::WrongUse;
     }
-    let SealingWord::Is(sealed) = arguments::sealing(at + 6) else {
+    let SealingWord::Is(sealed) = arguments::sealing(rt, at + 6) else {
         return Exit::WrongUse;
     };
-    let FramedWord::Is(framed) = arguments::framed(at + 7) else {
+    let FramedWord::Is(framed) = arguments::framed(rt, at + 7) else {
         return Exit::WrongUse;
     };
     let context = given.context;
@@ -115,7 +115,7 @@ pub fn wrap(at: usize) -> Exit
         sealed: sealed,
     };
     let mut buf = [0u8; BUFFER];
-    wrap_input(context, parts, framed, &mut buf)
+    wrap_input(rt, context, parts, framed, &mut buf)
 }
 
 // Opens the token of n octets at the front of a buffer.
@@ -134,31 +134,38 @@ fn message_start(n: usize, length: usize) -> usize {
     n - 1 - length
 }
 
-fn print_sealed(sealed: bool) -> Exit {
+fn print_sealed(rt: HostRuntime, sealed: bool) -> Exit {
     if sealed {
-        return output::line(Line::new().text(b"sealed yes"));
+        return output::line(rt, Line::new().text(b"sealed yes"));
     }
-    output::line(Line::new().text(b"sealed no"))
+    output::line(rt, Line::new().text(b"sealed no"))
 }
 
 // Writes what a token of n octets held.
-fn print_record(buf: &[u8], n: usize, sequence: u32, sealed: bool, length: usize) -> Exit {
-    let Exit::Done = output::line(Line::new().text(b"sequence ").number(sequence as u64)) else {
+fn print_record(
+    rt: HostRuntime,
+    buf: &[u8],
+    n: usize,
+    sequence: u32,
+    sealed: bool,
+    length: usize,
+) -> Exit {
+    let Exit::Done = output::line(rt, Line::new().text(b"sequence ").number(sequence as u64)) else {
         return Exit::WrongUse;
     };
-    let Exit::Done = print_sealed(sealed) else {
+    let Exit::Done = print_sealed(rt, sealed) else {
         return Exit::WrongUse;
     };
-    let Exit::Done = output::line(Line::new().text(b"length ").number(length as u64)) else {
+    let Exit::Done = output::line(rt, Line::new().text(b"length ").number(length as u64)) else {
         return Exit::WrongUse;
     };
-    output::named_digits(b"message", buf, message_start(n, length), length)
+    output::named_digits(rt, b"message", buf, message_start(n, length), length)
 }
 
 // Opens standard input.
-fn open_input(context: Context, framed: bool) -> Exit {
+fn open_input(rt: HostRuntime, context: Context, framed: bool) -> Exit {
     let mut buf = [0u8; input::BUFFER];
-    let read = input::standard(&mut buf);
+    let read = input::standard(rt, &mut buf);
     if !read.is_whole {
         return Exit::WrongUse;
     }
@@ -168,21 +175,21 @@ fn open_input(context: Context, framed: bool) -> Exit {
             sequence,
             sealed,
             length,
-        } => print_record(&buf, n, sequence, sealed, length),
-        Unwrapped::Refused(refusal) => output::refused(refusal),
+        } => print_record(rt, &buf, n, sequence, sealed, length),
+        Unwrapped::Refused(refusal) => output::refused(rt, refusal),
     }
 }
 
-pub fn open(at: usize) -> Exit
+pub fn open(rt: HostRuntime, at: usize) -> Exit
     requires { at ≤ 2 }
 {
-    let given = arguments::context(at + 1);
+    let given = arguments::context(rt, at + 1);
     if !given.is_right {
         return Exit::WrongUse;
     }
-    let FramedWord::Is(framed) = arguments::framed(at + 4) else {
+    let FramedWord::Is(framed) = arguments::framed(rt, at + 4) else {
         return Exit::WrongUse;
     };
     let context = given.context;
-    open_input(context, framed)
+    open_input(rt, context, framed)
 }

@@ -10,11 +10,11 @@ mod text;
 mod words;
 mod wrap_tokens;
 
-fn main() {
-    messages::refused();
-    mic_tokens::refused();
-    wrap_tokens::refused();
-    messages::whole();
-    mic_tokens::whole();
-    wrap_tokens::whole();
+fn main(rt: HostRuntime) {
+    messages::refused(&rt);
+    mic_tokens::refused(&rt);
+    wrap_tokens::refused(&rt);
+    messages::whole(&rt);
+    mic_tokens::whole(&rt);
+    wrap_tokens::whole(&rt);
 }

@@ -1,45 +1,41 @@
 // What the lines are written with.
-use libc::STDOUT_FILENO;
 
-// Octets as they are.
-pub fn write(octets: &[u8]) {
-    io::write_all(STDOUT_FILENO, octets);
+// Octets as they are. That some could not be written is left to the comparison with the file `stdout`.
+pub fn write(rt: &impl Print, octets: &[u8]) {
+    let _ = rt.write_all(octets);
 }
 
 // Octets in hexadecimal.
-pub fn write_hex(octets: &[u8]) {
-    let mut i: usize = 0;
-    while i < octets.len() {
-        let octet = octets[i] as u64;
-        io::print_hex(STDOUT_FILENO, octet, 2);
-        i += 1;
+pub fn write_hex(rt: &impl Print, octets: &[u8]) {
+    for octet in octets {
+        let _ = print!(rt; "{octet:02x}");
     }
 }
 
 // A number in decimal.
-pub fn write_decimal(n: usize) {
-    io::print_decimal(STDOUT_FILENO, n as u64);
+pub fn write_decimal(rt: &impl Print, n: usize) {
+    let _ = print!(rt; "{n}");
 }
 
 // A number after a space.
-pub fn write_next(n: usize) {
-    write(b" ");
-    write_decimal(n);
+pub fn write_next(rt: &impl Print, n: usize) {
+    write(rt, b" ");
+    write_decimal(rt, n);
 }
 
-pub fn end_line() {
-    write(b"\n");
+pub fn end_line(rt: &impl Print) {
+    write(rt, b"\n");
 }
 
 // What a line is about, before its answer.
-pub fn write_name(name: &[u8]) {
-    write(name);
-    write(b": ");
+pub fn write_name(rt: &impl Print, name: &[u8]) {
+    write(rt, name);
+    write(rt, b": ");
 }
 
 // The octets that a line is about, and its end.
-pub fn write_octets(octets: &[u8]) {
-    write(b": ");
-    write_hex(octets);
-    end_line();
+pub fn write_octets(rt: &impl Print, octets: &[u8]) {
+    write(rt, b": ");
+    write_hex(rt, octets);
+    end_line(rt);
 }

@@ -3,24 +3,24 @@ use crate::text;
 use tokens::context::Sender;
 use tokens::strength::Strength;
 
-pub fn write_strength(strength: Strength) {
+pub fn write_strength(rt: &impl Print, strength: Strength) {
     match strength {
-        Strength::Full => text::write(b" full"),
-        Strength::Export => text::write(b" export"),
+        Strength::Full => text::write(rt, b" full"),
+        Strength::Export => text::write(rt, b" export"),
     }
 }
 
-pub fn write_sender(sender: Sender) {
+pub fn write_sender(rt: &impl Print, sender: Sender) {
     match sender {
-        Sender::Initiator => text::write(b" initiator"),
-        Sender::Acceptor => text::write(b" acceptor"),
+        Sender::Initiator => text::write(rt, b" initiator"),
+        Sender::Acceptor => text::write(rt, b" acceptor"),
     }
 }
 
-pub fn write_seal(sealed: bool) {
+pub fn write_seal(rt: &impl Print, sealed: bool) {
     if sealed {
-        text::write(b" sealed");
+        text::write(rt, b" sealed");
     } else {
-        text::write(b" clear");
+        text::write(rt, b" clear");
     }
 }

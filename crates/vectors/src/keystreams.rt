@@ -13,67 +13,67 @@ const DIGEST: [u8; 32] =
     *b"\x1a\xda\x31\xd5\xcf\x68\x82\x21\xc1\x09\x16\x39\x08\xeb\xe5\x1d\xeb\xb4\x62\x27\xc6\xcc\x8b\x37\x64\x19\x10\x83\x32\x22\x77\x2a";
 
 // The sixteen octets of the keystream at an offset.
-fn write_at(stream: &[u8], offset: usize)
+fn write_at(rt: &impl Print, stream: &[u8], offset: usize)
     requires { offset + 16 ≤ length stream.now }
 {
     let end = offset + 16;
-    text::write_decimal(offset);
-    text::write(b": ");
-    text::write_hex(&stream[offset..end]);
-    text::end_line();
+    text::write_decimal(rt, offset);
+    text::write(rt, b": ");
+    text::write_hex(rt, &stream[offset..end]);
+    text::end_line(rt);
 }
 
-fn write_offsets(stream: &[u8])
+fn write_offsets(rt: &impl Print, stream: &[u8])
     requires { 4112 ≤ length stream.now }
 {
-    write_at(stream, 0);
-    write_at(stream, 16);
-    write_at(stream, 240);
-    write_at(stream, 256);
-    write_at(stream, 496);
-    write_at(stream, 512);
-    write_at(stream, 752);
-    write_at(stream, 768);
-    write_at(stream, 1008);
-    write_at(stream, 1024);
-    write_at(stream, 1520);
-    write_at(stream, 1536);
-    write_at(stream, 2032);
-    write_at(stream, 2048);
-    write_at(stream, 3056);
-    write_at(stream, 3072);
-    write_at(stream, 4080);
-    write_at(stream, 4096);
+    write_at(rt, stream, 0);
+    write_at(rt, stream, 16);
+    write_at(rt, stream, 240);
+    write_at(rt, stream, 256);
+    write_at(rt, stream, 496);
+    write_at(rt, stream, 512);
+    write_at(rt, stream, 752);
+    write_at(rt, stream, 768);
+    write_at(rt, stream, 1008);
+    write_at(rt, stream, 1024);
+    write_at(rt, stream, 1520);
+    write_at(rt, stream, 1536);
+    write_at(rt, stream, 2032);
+    write_at(rt, stream, 2048);
+    write_at(rt, stream, 3056);
+    write_at(rt, stream, 3072);
+    write_at(rt, stream, 4080);
+    write_at(rt, stream, 4096);
 }
 
-fn write_stream(key: &[u8]) {
+fn write_stream(rt: &impl Print, key: &[u8]) {
     let mut stream = [0u8; 4112];
     let status = whole::rc4(key, &mut stream);
-    text::write(b"RFC 6229 ");
-    text::write_hex(key);
-    text::write(b": ");
-    text::write_status(status);
-    text::end_line();
-    write_offsets(&stream);
+    text::write(rt, b"RFC 6229 ");
+    text::write_hex(rt, key);
+    text::write(rt, b": ");
+    text::write_status(rt, status);
+    text::end_line(rt);
+    write_offsets(rt, &stream);
 }
 
 // The two keys of `n` octets.
-fn write_keys(n: usize)
+fn write_keys(rt: &impl Print, n: usize)
     requires { n ≤ 32 }
 {
     let counting = COUNTING;
-    write_stream(&counting[0..n]);
+    write_stream(rt, &counting[0..n]);
     let digest = DIGEST;
     let start = 32 - n;
-    write_stream(&digest[start..32]);
+    write_stream(rt, &digest[start..32]);
 }
 
-pub fn run() {
-    write_keys(5);
-    write_keys(7);
-    write_keys(8);
-    write_keys(10);
-    write_keys(16);
-    write_keys(24);
-    write_keys(32);
+pub fn run(rt: &impl Print) {
+    write_keys(rt, 5);
+    write_keys(rt, 7);
+    write_keys(rt, 8);
+    write_keys(rt, 10);
+    write_keys(rt, 16);
+    write_keys(rt, 24);
+    write_keys(rt, 32);
 }

@@ -10,92 +10,98 @@ fn octets() -> [u8; 65537] {
     [0x5au8; 65537]
 }
 
-fn md4(n: usize)
+fn md4(rt: &impl Print, n: usize)
     requires { n ≤ 65537 }
 {
     let octets = octets();
-    text::write_digest(b"md4 of ", n, whole::md4(&octets[0..n]));
+    text::write_digest(rt, b"md4 of ", n, whole::md4(&octets[0..n]));
 }
 
-fn md5(n: usize)
+fn md5(rt: &impl Print, n: usize)
     requires { n ≤ 65537 }
 {
     let octets = octets();
-    text::write_digest(b"md5 of ", n, whole::md5(&octets[0..n]));
+    text::write_digest(rt, b"md5 of ", n, whole::md5(&octets[0..n]));
 }
 
 // HMAC-MD5 with a key of `n` octets.
-fn hmac_md5_key(n: usize)
+fn hmac_md5_key(rt: &impl Print, n: usize)
     requires { n ≤ 65537 }
 {
     let octets = octets();
     text::write_digest(
+        rt,
         b"hmac_md5 with a key of ",
         n,
         whole::hmac_md5(&octets[0..n], b"text"),
     );
 }
 
-fn hmac_md5(n: usize)
+fn hmac_md5(rt: &impl Print, n: usize)
     requires { n ≤ 65537 }
 {
     let octets = octets();
-    text::write_digest(b"hmac_md5 of ", n, whole::hmac_md5(b"key", &octets[0..n]));
+    text::write_digest(
+        rt,
+        b"hmac_md5 of ",
+        n,
+        whole::hmac_md5(b"key", &octets[0..n]),
+    );
 }
 
 // RC4 with a key of `n` octets 01, over sixteen octets 5a.
-fn rc4_key(n: usize)
+fn rc4_key(rt: &impl Print, n: usize)
     requires { n ≤ 257 }
 {
     let key = [0x01u8; 257];
     let mut data = [0x5au8; 16];
     let status = whole::rc4(&key[0..n], &mut data);
-    text::write_name(b"rc4 with a key of ", n);
-    text::write_status(status);
-    text::write(b" ");
-    text::write_hex(&data);
-    text::end_line();
+    text::write_name(rt, b"rc4 with a key of ", n);
+    text::write_status(rt, status);
+    text::write(rt, b" ");
+    text::write_hex(rt, &data);
+    text::end_line(rt);
 }
 
 // Data run through RC4 under one key: the status, the last octet afterwards, and the MD5 digest of those before it.
-fn write_rc4(octets: &mut [u8])
+fn write_rc4(rt: &impl Print, octets: &mut [u8])
     requires { 1 ≤ length octets.old }
 {
     let status = whole::rc4(b"key", octets);
     let n = octets.len();
     let last = n - 1;
-    text::write_name(b"rc4 of ", n);
-    text::write_status(status);
-    text::write(b" ");
-    text::write_hex(&octets[last..n]);
-    text::write(b" md5: ");
-    text::write_answer(whole::md5(&octets[0..last]));
+    text::write_name(rt, b"rc4 of ", n);
+    text::write_status(rt, status);
+    text::write(rt, b" ");
+    text::write_hex(rt, &octets[last..n]);
+    text::write(rt, b" md5: ");
+    text::write_answer(rt, whole::md5(&octets[0..last]));
 }
 
-fn rc4(n: usize)
+fn rc4(rt: &impl Print, n: usize)
     requires { (1 ≤ n) × (n ≤ 65537) }
 {
     let mut octets = octets();
-    write_rc4(&mut octets[0..n]);
+    write_rc4(rt, &mut octets[0..n]);
 }
 
-pub fn run() {
-    md4(65536);
-    md4(65537);
-    md5(65536);
-    md5(65537);
-    hmac_md5_key(0);
-    hmac_md5_key(64);
-    hmac_md5_key(65);
-    hmac_md5_key(65536);
-    hmac_md5_key(65537);
-    hmac_md5(0);
-    hmac_md5(65472);
-    hmac_md5(65473);
-    rc4_key(0);
-    rc4_key(1);
-    rc4_key(256);
-    rc4_key(257);
-    rc4(65536);
-    rc4(65537);
+pub fn run(rt: &impl Print) {
+    md4(rt, 65536);
+    md4(rt, 65537);
+    md5(rt, 65536);
+    md5(rt, 65537);
+    hmac_md5_key(rt, 0);
+    hmac_md5_key(rt, 64);
+    hmac_md5_key(rt, 65);
+    hmac_md5_key(rt, 65536);
+    hmac_md5_key(rt, 65537);
+    hmac_md5(rt, 0);
+    hmac_md5(rt, 65472);
+    hmac_md5(rt, 65473);
+    rc4_key(rt, 0);
+    rc4_key(rt, 1);
+    rc4_key(rt, 256);
+    rc4_key(rt, 257);
+    rc4(rt, 65536);
+    rc4(rt, 65537);
 }

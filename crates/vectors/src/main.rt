@@ -7,9 +7,9 @@ mod limits;
 mod rfc4757;
 mod text;
 
-fn main() {
-    digests::run();
-    keystreams::run();
-    rfc4757::run();
-    limits::run();
+fn main(rt: HostRuntime) {
+    digests::run(&rt);
+    keystreams::run(&rt);
+    rfc4757::run(&rt);
+    limits::run(&rt);
 }

@@ -10,7 +10,6 @@ use Rattle.frame.specs.Length.{LengthIs}
 use Rattle.frame.specs.declared.length.Contents.TheVariants.{Incomplete}
 use Rattle.frame.proofs.Contents as Law
 use Rattle.frame.proofs.length.contents_in.Goals as goal
-use Rattle.frame.proofs.length.contents_in.Goals.{then-count-eq1+else-digit-lt128, else-count-eq1}
 
 
 pub returns-then-first-lt128 : goal.returns-then-first-lt128
@@ -62,7 +61,7 @@ returns-in_default c =
       used = omega arith;
       there = omega arith;
       digit = omega arith;
-      one = λ e. elim c.if-count-eq1.branch [ then-count-eq1+else-digit-lt128 w ↦ omega arith | else-count-eq1 w ↦ absurd (w.if-count-eq1.false e) ];
+      one = λ e. grind arith;
     } in
     Law.long_cut _ _ _ long (sym c.value_within-said.ensures ∙ c.in_default.is)
 
@@ -77,6 +76,6 @@ returns c =
       used = omega arith;
       there = omega arith;
       digit = omega arith;
-      one = λ e. elim c.if-count-eq1.branch [ then-count-eq1+else-digit-lt128 w ↦ omega arith | else-count-eq1 w ↦ absurd (w.if-count-eq1.false e) ];
+      one = λ e. grind arith;
     } in
     Law.long_counted _ _ _ long _ (sym c.value_within-said.ensures ∙ c.in-Number.is)

@@ -1,7 +1,7 @@
 /* Opens one firing record, the framed Wrap token of samples/record.token, and
  * bills its number in the window of a session whose first number is 7, both in
  * one call:
- *   cc -I include examples/open_record.c target/staticlib/librc4hmac.a */
+ *   cc -I include examples/open_record.c crates/rc4hmac/out/librc4hmac.a */
 
 #include <inttypes.h>
 #include <stdio.h>

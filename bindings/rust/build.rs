@@ -13,14 +13,14 @@ fn main() {
     let manifest_dir = Path::new(&manifest_dir);
     let folder = match env::var_os("RC4HMAC_LIB_DIR") {
         Some(folder) => manifest_dir.join(folder),
-        None => manifest_dir.join("../../target/staticlib"),
+        None => manifest_dir.join("../../crates/rc4hmac/out"),
     };
 
     let archive = folder.join("librc4hmac.a");
     println!("cargo:rerun-if-changed={}", archive.display());
     if !archive.is_file() {
         eprintln!(
-            "There is no librc4hmac.a in {}: run `rt staticlib rc4hmac` at the repository's top first.",
+            "There is no librc4hmac.a in {}: run `rt lib` in crates/rc4hmac first.",
             folder.display()
         );
         process::exit(1);

@@ -8,11 +8,10 @@ use lib.Seq.{take-add, drop_at, drop-drop, length-take-le}
 use borrow.Author.Tests.{leb-true, le-leb}
 use Rattle.tokens.proofs.Steps.{require_done, done_same, then_on, then_stops, never_zero}
 use Rattle.tokens.specs.Answer.{Outcome, done, refused, status_number, status_answer, require}
-use Rattle.tokens.specs.Limits.{inside, region}
+use Rattle.tokens.specs.Limits.{region}
 use Rattle.tokens.specs.declared.answer.Refusal.{Refusal}
-use Rattle.tokens.specs.declared.answer.Refusal.TheVariants as Refusal
 use Rattle.tokens.specs.declared.answer.Status.TheVariants as status
-use Rattle.frame.specs.Framing.{lead_length, frame, lead_width, is_frame, lead_of, lead_in, read_framed, lead_answer, Framed}
+use Rattle.frame.specs.Framing.{lead_length, frame, lead_width, lead_of, lead_in, read_framed, lead_answer, Framed}
 use Rattle.frame.specs.declared.framing.Lead.{Lead}
 use Rattle.frame.proofs.Frames.{frames_exactly, frame_length}
 

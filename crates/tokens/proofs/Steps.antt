@@ -10,14 +10,10 @@ use Rattle.tokens.specs.Answer.{Outcome, done, refused, require, and_then, numbe
 use Rattle.tokens.specs.Limits.{within, buffer_after}
 use Rattle.tokens.specs.Usage.{is_usage, type_octets, not_named, named}
 use Rattle.tokens.specs.declared.answer.Digest.{Digest}
-use Rattle.tokens.specs.declared.answer.Extent.{Extent}
 use Rattle.tokens.specs.declared.answer.Refusal.{Refusal}
-use Rattle.tokens.specs.declared.answer.Refusal.TheVariants as Refusal
-use Rattle.tokens.specs.declared.answer.Sequence.{Sequence}
 use Rattle.tokens.specs.declared.answer.Sequence.TheVariants as sequence
 use Rattle.tokens.specs.declared.answer.Status.{Status}
 use Rattle.tokens.specs.declared.answer.Status.TheVariants.{Done, Refused}
-use Rattle.tokens.specs.declared.answer.Unwrapped.{Unwrapped}
 use Rattle.tokens.specs.declared.usage.Named.{Named}
 use Rattle.tokens.specs.Wrap.{Parts, unwrapped_answer}
 

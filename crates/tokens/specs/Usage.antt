@@ -5,7 +5,6 @@ use Rattle.tokens.specs.Limits.{within}
 use Rattle.tokens.specs.declared.answer.Refusal.TheVariants as Refusal
 use Rattle.tokens.specs.declared.answer.Status.TheVariants.{Done, Refused}
 use Rattle.tokens.specs.declared.usage.Named.{Named}
-use Rattle.tokens.specs.declared.usage.Usage.{Usage}
 
 -- usages are counted from 1
 abbrev pub least_usage : ℕ

@@ -1,7 +1,7 @@
 -- After i numbers the window is the one of the session whose tokens present them; so its count and what it misses are the clerk's.
 use mathlib.Core.Path.{◌≡◌, sym, ap, ap₂, ◌∙◌}
 use mathlib.Core.List.{List, [], ◌∷◌, map, reverse, reverse-append}
-use Prim.Native.Nat.{ℕ, ◌+◌, ◌-◌, ◌≤◌, ◌<◌}
+use Prim.Native.Nat.{ℕ, ◌+◌, ◌<◌}
 use native.Mathlib.Numerals.{add-one}
 use lib.ListN.{length, take, get_or}
 use lib.Seq.{take-suc, take_all}
@@ -12,7 +12,6 @@ use Rattle.billing.specs.declared.window.Receipt.{Receipt}
 use Rattle.billing.specs.declared.window.Window.{Window}
 use Rattle.billing.proofs.Laws.{bills_once, presented_numbers, reversed_numbers}
 use Rattle.tokens.specs.Token.{sequence_numbers}
-use Rattle.tokens.specs.declared.answer.Sequence.{Sequence}
 use Rattle.tokens.specs.declared.answer.Sequence.TheVariants as sequence
 use Rattle.tally.specs.Tally.{clerk_tally}
 use Rattle.tally.specs.declared.Tally.{Tally}

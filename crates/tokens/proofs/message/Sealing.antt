@@ -1,7 +1,7 @@
 -- An encrypted message written and opened as its front and the message after it, from what each step gives.
 use mathlib.Core.Path.{◌≡◌, sym, ap, ap₂, ◌∙◌}
 use mathlib.Core.List.{List, ◌++◌}
-use Prim.Native.Nat.{ℕ, ◌+◌, ◌-◌}
+use Prim.Native.Nat.{ℕ}
 use lib.ListN.{length, take-append-drop}
 use lib.Seq.{take_at, drop_at}
 use Rattle.primitives.specs.Hmac.{hmac}

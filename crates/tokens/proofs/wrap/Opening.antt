@@ -14,7 +14,6 @@ use Rattle.tokens.specs.Octets.{same}
 use Rattle.tokens.specs.Token.{front, checksum_in, number_in}
 use Rattle.tokens.specs.Wrap.{parts, header, plain, wrap_checksum, under_seal, wrap_token, sealed_in, apart, verified, opened, unwrapped_answer, sealing_answer}
 use Rattle.tokens.specs.declared.answer.Refusal.{Refusal}
-use Rattle.tokens.specs.declared.answer.Refusal.TheVariants as Refusal
 use Rattle.tokens.specs.declared.answer.Sequence.TheVariants as sequence
 use Rattle.tokens.specs.declared.answer.Status.{Status}
 use Rattle.tokens.specs.declared.answer.Status.TheVariants.{Done, Refused}

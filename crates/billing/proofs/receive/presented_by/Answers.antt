@@ -1,5 +1,4 @@
 -- Each case of the answer.
-use Rattle.std.proofs.Common.{rules}
 use Rattle.billing.proofs.receive.presented_by.Goals as goal
 
 pub returns-in-Message : goal.returns-in-Message

@@ -1,5 +1,4 @@
 -- A number takes a step, and a refusal leaves the window.
-use Rattle.std.proofs.Common.{rules}
 use Rattle.billing.proofs.receive.receive.Goals as goal
 
 pub returns-in_default : goal.returns-in_default

@@ -1,5 +1,4 @@
 -- What the opener promises, and the step of the number that it presents.
-use Rattle.std.proofs.Common.{rules}
 use Rattle.billing.proofs.receive.receive_wrap.Goals as goal
 
 pub returns : goal.returns

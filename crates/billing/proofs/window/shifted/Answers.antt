@@ -1,5 +1,5 @@
 -- The test is the definition's.
-use Rattle.std.proofs.Common.{rules, le-ltb, lt-ltb}
+use Rattle.std.proofs.Common.{le-ltb, lt-ltb}
 use Rattle.billing.specs.Window.{shifted}
 use Rattle.billing.proofs.window.shifted.Goals as goal
 

@@ -4,7 +4,6 @@ use mathlib.Core.List.{◌∷◌}
 use Prim.Native.Nat.{◌+◌, ◌≤◌}
 use native.Mathlib.Omega.{arith}
 use lib.ListN.{length}
-use borrow.Author.Rules.{rules}
 use Rattle.frame.specs.Framing.{tag}
 use Rattle.frame.specs.Length.{LengthIs}
 use Rattle.frame.specs.declared.length.Contents.{Contents}

@@ -5,7 +5,6 @@ use Prim.Native.Nat.{ℕ}
 use native.Mathlib.Omega.{arith}
 use lib.ListN.{length, take}
 use lib.Seq.{length-take-le, take_all}
-use borrow.Author.Rules.{rules}
 use Rattle.tokens.specs.Octets.{same}
 use Rattle.frame.specs.Framing.{mechanism, agree}
 use Rattle.frame.proofs.framing.is_mechanism.Goals as goal

@@ -1,10 +1,9 @@
 -- The refusal of the region, or what its octets are.
-use mathlib.Core.Path.{◌≡◌, sym, ap, ◌∙◌}
+use mathlib.Core.Path.{sym, ap, ◌∙◌}
 use mathlib.Core.List.{List}
 use Prim.Native.Nat.{ℕ, ◌+◌, ◌≤◌}
 use native.Mathlib.Omega.{arith}
 use lib.ListN.{length}
-use borrow.Author.Rules.{rules}
 use borrow.Author.Tests.{leb-true}
 use Rattle.tokens.proofs.Steps.{goes_on, stops, test_held}
 use Rattle.frame.specs.Framing.{lead_of, lead_in, lead_answer}

@@ -1,7 +1,6 @@
 -- Each way out has its law in `proofs/Fronts.antt`.
 use mathlib.Core.Path.{◌≡◌, subst, sym, ◌∙◌}
 use native.Mathlib.Omega.{arith}
-use borrow.Author.Rules.{rules}
 use Rattle.frame.specs.Framing.{Front, FrontIs}
 use Rattle.frame.specs.declared.framing.Framing.{Framing}
 use Rattle.frame.proofs.Fronts as Law

@@ -1,5 +1,4 @@
 -- The shortest form of what the length counts.
-use borrow.Author.Rules.{rules}
 use Rattle.frame.proofs.lead.length_of.Goals as goal
 
 pub returns : goal.returns

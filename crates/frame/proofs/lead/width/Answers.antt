@@ -1,6 +1,5 @@
 -- The octets of the three parts.
 use native.Mathlib.Omega.{arith}
-use borrow.Author.Rules.{rules}
 use Rattle.frame.proofs.Frames.{lead_length_lem}
 use Rattle.frame.proofs.lead.width.Goals as goal
 

@@ -22,7 +22,7 @@ place-requires-2 c =
     let inside : start + lead_length n ≤ length buf = omega (arith, lead_length_lem n, room) in
     let three : length c.length_of-length.result.octets ≡ 3 = search rules in
     let form_length : length form ≡ c.length_of-length.result.width = length-take-le c.length_of-length.result.width c.length_of-length.result.octets (omega (arith, three)) in
-    let after_tag : length c.place.new.buf ≡ length buf =    first_length start n c.length_of-length.result.width form buf _ c.length_of-length.ensures.0 c.length_of-length.ensures.2 inside c.place.ensures in
+    let after_tag : length c.place.new.buf ≡ length buf = first_length start n c.length_of-length.result.width form buf _ c.length_of-length.ensures.0 c.length_of-length.ensures.2 inside c.place.ensures in
     omega (arith, room, form_length, after_tag)
 
 pub place-requires-3 : goal.place-requires-3
@@ -33,7 +33,7 @@ place-requires-3 c =
     let form : List ℕ = take c.length_of-length.result.width c.length_of-length.result.octets in
     let room : start + (12 + c.length_of-length.result.width) ≤ length buf = omega (arith, lead_length_lem n) in
     let inside : start + lead_length n ≤ length buf = omega (arith, lead_length_lem n, room) in
-    let after_length : length c.place-2.new.buf ≡ length buf =    second_length start n c.length_of-length.result.width form buf _ c.length_of-length.ensures.0 c.length_of-length.ensures.2 inside c.place.ensures _ c.place-2.ensures in
+    let after_length : length c.place-2.new.buf ≡ length buf = second_length start n c.length_of-length.result.width form buf _ c.length_of-length.ensures.0 c.length_of-length.ensures.2 inside c.place.ensures _ c.place-2.ensures in
     omega (arith, room, after_length)
 
 pub returns : goal.returns

@@ -1,16 +1,13 @@
 -- Each way out has its law in `proofs/Contents.antt`.
 use mathlib.Core.Path.{sym, ◌∙◌}
-use mathlib.Core.Logic.{⊎_elim}
 use Prim.Native.Nat.{◌+◌, ◌≤◌, ◌<◌}
 use native.Mathlib.Omega.{arith}
 use lib.ListN.{length, get_or, get_or-eq_default}
-use borrow.Author.Rules.{rules}
 use Rattle.primitives.specs.Octets.{Octets}
 use Rattle.frame.specs.Length.{LengthIs}
 use Rattle.frame.specs.declared.length.Contents.TheVariants.{Incomplete}
 use Rattle.frame.proofs.Contents as Law
 use Rattle.frame.proofs.length.contents_in.Goals as goal
-
 
 pub returns-then-first-lt128 : goal.returns-then-first-lt128
 returns-then-first-lt128 c =

@@ -2,7 +2,6 @@
 use mathlib.Core.Path.{sym, ap}
 use lib.ListN.{length}
 use native.Mathlib.Omega.{arith}
-use borrow.Author.Rules.{rules}
 use Rattle.frame.proofs.Lengths.{der_short, der_two, der_three}
 use Rattle.frame.proofs.length.shortest.Goals as goal
 

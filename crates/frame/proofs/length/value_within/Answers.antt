@@ -1,9 +1,8 @@
 -- What the octets so far say, and the octets that are left after it.
 use mathlib.Core.Path.{◌≡◌, refl, sym, ap, ◌∙◌}
-use Prim.Native.Nat.{ℕ, ◌+◌, ◌*◌, ◌-◌, ◌≤◌}
+use Prim.Native.Nat.{ℕ, ◌+◌, ◌*◌}
 use native.Mathlib.Omega.{arith}
-use lib.ListN.{length, get_or, drop}
-use borrow.Author.Rules.{rules}
+use lib.ListN.{get_or, drop}
 use Rattle.frame.specs.Length.{value_after}
 use Rattle.frame.proofs.Lengths.{value_next, value_all, value_least, at_most, above}
 use Rattle.frame.proofs.length.value_within.Goals as goal

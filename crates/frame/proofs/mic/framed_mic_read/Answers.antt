@@ -1,9 +1,8 @@
 -- The refusal of the region or of the frame, or the token read; and from that, that reading succeeds exactly on what the rules write.
 use mathlib.Core.Path.{◌≡◌, sym, ap, ◌∙◌}
 use native.Mathlib.Omega.{arith}
-use borrow.Author.Rules.{rules}
 use Rattle.tokens.proofs.Steps.{is_refused}
-use Rattle.tokens.specs.Answer.{done, refused, sequence_answer}
+use Rattle.tokens.specs.Answer.{done, sequence_answer}
 use Rattle.tokens.specs.Mic.{mic_reading}
 use Rattle.frame.specs.Framing.{lead_in}
 use Rattle.frame.specs.Mic as Spec

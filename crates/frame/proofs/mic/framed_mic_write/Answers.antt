@@ -5,7 +5,6 @@ use Prim.Native.Nat.{ℕ, ◌+◌, ◌≤◌}
 use native.Mathlib.Omega.{arith}
 use lib.Dec.{leb}
 use lib.ListN.{length}
-use borrow.Author.Rules.{rules}
 use borrow.Author.Tests.{leb-true}
 use Rattle.tokens.proofs.Laws.{mic_length_lem, mic_makes}
 use Rattle.tokens.proofs.Steps.{is_refused, goes_on, stops, buffer_refused, test_held, within_bounds}
@@ -49,7 +48,7 @@ write-requires c =
     let token_size : length token ≡ 24 = mic_length_lem c.args.context c.args.sequence c.args.«data».now in
     let inside : start + (width + 24) ≤ length buf = leb-true _ _ (test_held _ _ (sym c.region-placed.ensures ∙ c.in-Done-placed.is)) in
     let most : length c.args.«data».now ≤ 32768 = (within_bounds 0 32768 _ (test_held _ _ (sym c.length-sized.ensures ∙ c.in-Done.is))).1 in
-    let token_placed : c.mic_write.new.buf ≡ placed (start + width) token buf =    let a = c.args in
+    let token_placed : c.mic_write.new.buf ≡ placed (start + width) token buf = let a = c.args in
     c.mic_write.ensures.buffer ∙ ap (buffer_after all_octets (start + width) buf) (mic_makes a.context a.sequence a.«data».now buf (start + width) most (omega (arith, inside))) in
     let kept = token_length start width 24 token buf token_size c.width-before.ensures.0 inside _ token_placed in
     (omega arith, omega (arith, inside, kept, c.width-before.ensures.0))
@@ -66,7 +65,7 @@ returns c =
     let inside : start + (width + 24) ≤ length buf = leb-true _ _ (test_held _ _ (sym c.region-placed.ensures ∙ c.in-Done-placed.is)) in
     let most : length c.args.«data».now ≤ 32768 = (within_bounds 0 32768 _ (test_held _ _ (sym c.length-sized.ensures ∙ c.in-Done.is))).1 in
     let ended : Spec.framed_mic_writing c.args.context c.args.sequence c.args.«data».now buf start ≡ done (frame token) = goes_on _ _ _ c.length-sized.ensures c.in-Done.is ∙ goes_on _ _ _ region_tested c.in-Done-placed.is in
-    let token_placed : c.mic_write.new.buf ≡ placed (start + width) token buf =    let a = c.args in
+    let token_placed : c.mic_write.new.buf ≡ placed (start + width) token buf = let a = c.args in
     c.mic_write.ensures.buffer ∙ ap (buffer_after all_octets (start + width) buf) (mic_makes a.context a.sequence a.«data».now buf (start + width) most (omega (arith, inside))) in
     let size = frame_size start width 24 token buf token_size c.width-before.ensures.0 inside in
     let written = frame_placed start width 24 token buf token_size c.width-before.ensures.0 inside _ token_placed _ c.write.ensures in

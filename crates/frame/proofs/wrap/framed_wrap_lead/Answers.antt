@@ -3,7 +3,6 @@ use mathlib.Core.Path.{sym, ap, ◌∙◌}
 use Prim.Native.Nat.{◌≤◌}
 use native.Mathlib.Omega.{arith}
 use lib.ListN.{length}
-use borrow.Author.Rules.{rules}
 use Rattle.tokens.proofs.Steps.{is_refused, goes_on, stops, test_held, within_bounds}
 use Rattle.tokens.specs.Answer.{extent_answer}
 use Rattle.frame.specs.Wrap as Spec

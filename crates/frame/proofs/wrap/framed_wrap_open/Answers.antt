@@ -1,14 +1,11 @@
 -- The refusal of the region or of the frame, or the token opened; and from that, that opening succeeds exactly on what the rules write.
 use mathlib.Core.Path.{◌≡◌, sym, ap, ◌∙◌}
-use mathlib.Core.List.{List}
-use Prim.Native.Nat.{ℕ, ◌+◌}
 use native.Mathlib.Omega.{arith}
-use borrow.Author.Rules.{rules}
 use Rattle.tokens.proofs.Steps.{is_refused}
-use Rattle.tokens.specs.Answer.{Outcome, done, refused}
+use Rattle.tokens.specs.Answer.{done}
 use Rattle.tokens.specs.Limits.{buffer_after}
-use Rattle.tokens.specs.Wrap.{Parts, plain, wrap_opening, unwrapped_answer}
-use Rattle.frame.specs.Framing.{lead_width, lead_in}
+use Rattle.tokens.specs.Wrap.{plain, wrap_opening, unwrapped_answer}
+use Rattle.frame.specs.Framing.{lead_in}
 use Rattle.frame.specs.Wrap as Spec
 use Rattle.frame.proofs.Regions.{lead_found, lead_refused, read_refused, read_token, in_frame}
 use Rattle.frame.proofs.wrap.Exactly.{nothing_opens, token_opens}

@@ -54,7 +54,7 @@ write-requires c =
     let inside : start + (width + size) ≤ length buf = leb-true _ _ (test_held _ _ (sym c.region-placed.ensures ∙ c.in-Done-placed.is)) in
     let token_size : length (token_after width) ≡ size = wrap_length_lem c.args.context (parts c.args.sequence c.args.sealed c.args.confounder (region (start + width + 32) c.args.len buf)) eight
     ∙ ap (λ (n : ℕ). 33 + n) (region_length buf (start + width + 32) c.args.len (omega (arith, inside))) in
-    let token_placed : c.wrap_write.new.buf ≡ placed (start + width) (token_after width) buf =    let a = c.args in
+    let token_placed : c.wrap_write.new.buf ≡ placed (start + width) (token_after width) buf = let a = c.args in
     c.wrap_write.ensures.buffer
     ∙ ap (buffer_after all_octets (start + width) buf)
     (wrap_makes a.context a.sequence a.confounder a.sealed buf (start + width) a.len sized (omega (arith, inside))) in
@@ -79,7 +79,7 @@ returns c =
     let ended : Spec.framed_wrap_writing c.args.context c.args.sequence c.args.confounder c.args.sealed buf start c.args.len ≡ done (frame (token_after width)) = goes_on _ _ _ c.length-sized.ensures c.in-Done.is
     ∙ goes_on _ _ _ region_tested c.in-Done-placed.is
     ∙ ap (λ (w : ℕ). done (frame (token_after w))) (sym width_is) in
-    let token_placed : c.wrap_write.new.buf ≡ placed (start + width) (token_after width) buf =    let a = c.args in
+    let token_placed : c.wrap_write.new.buf ≡ placed (start + width) (token_after width) buf = let a = c.args in
     c.wrap_write.ensures.buffer
     ∙ ap (buffer_after all_octets (start + width) buf)
     (wrap_makes a.context a.sequence a.confounder a.sealed buf (start + width) a.len sized (omega (arith, inside))) in

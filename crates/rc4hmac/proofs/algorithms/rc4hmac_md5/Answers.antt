@@ -1,5 +1,4 @@
 -- What is handed out is the answer of the call on whole slices.
-use borrow.Author.Rules.{rules}
 use Rattle.rc4hmac.proofs.algorithms.rc4hmac_md5.Goals as goal
 
 pub returns : goal.returns

@@ -1,7 +1,6 @@
 -- The status of the call on whole slices as a number, and the data as it leaves them.
 use mathlib.Core.Path.{ap, ◌∙◌}
 use Rattle.rc4hmac.specs.Primitives.{number}
-use borrow.Author.Rules.{rules}
 use Rattle.rc4hmac.proofs.algorithms.rc4hmac_rc4.Goals as goal
 
 pub returns : goal.returns

@@ -1,6 +1,5 @@
 -- Each case of the answer.
 use mathlib.Core.Path.{refl}
-use borrow.Author.Rules.{rules}
 use Rattle.rc4hmac.proofs.answers.unwrapped_out.Goals as goal
 
 pub returns-in-Message : goal.returns-in-Message

@@ -1,5 +1,4 @@
 -- The three fields.
-use borrow.Author.Rules.{rules}
 use Rattle.rc4hmac.proofs.arguments.context_of.Goals as goal
 
 pub returns : goal.returns

@@ -3,7 +3,6 @@ use mathlib.Core.Path.{◌≡◌, refl}
 use mathlib.Core.Bool.{true}
 use Prim.Native.Nat.{ℕ, zero, suc}
 use Rattle.rc4hmac.specs.Arguments.{is_yes}
-use borrow.Author.Rules.{rules}
 use Rattle.rc4hmac.proofs.arguments.is_yes.Goals as goal
 
 other : (n : ℕ) → (n ≡ 0 → ⊥) → true ≡ is_yes n

@@ -1,5 +1,4 @@
 -- What is handed out is the answer of the call; so the call's demand is met by what is handed out.
-use borrow.Author.Rules.{rules}
 use Rattle.rc4hmac.proofs.framed_tokens.rc4hmac_framed_mic_read.Goals as goal
 
 pub returns : goal.returns

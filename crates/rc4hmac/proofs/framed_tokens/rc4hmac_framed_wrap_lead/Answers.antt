@@ -1,5 +1,4 @@
 -- What is handed out is the answer of the call.
-use borrow.Author.Rules.{rules}
 use Rattle.rc4hmac.proofs.framed_tokens.rc4hmac_framed_wrap_lead.Goals as goal
 
 pub returns : goal.returns

@@ -1,6 +1,5 @@
 -- What is handed out is the answer of the call, and the buffer is as it leaves it; so the call's demand is met by what is handed out.
 use Rattle.rc4hmac.proofs.Out.{opens_out}
-use borrow.Author.Rules.{rules}
 use Rattle.rc4hmac.proofs.gss_tokens.rc4hmac_wrap_open.Goals as goal
 
 pub returns : goal.returns

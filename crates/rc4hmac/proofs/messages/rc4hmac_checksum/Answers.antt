@@ -1,5 +1,4 @@
 -- What is handed out is the answer of the call.
-use borrow.Author.Rules.{rules}
 use Rattle.rc4hmac.proofs.messages.rc4hmac_checksum.Goals as goal
 
 pub returns : goal.returns

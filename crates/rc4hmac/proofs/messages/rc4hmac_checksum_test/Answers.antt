@@ -1,7 +1,6 @@
 -- The status of the call as a number.
 use mathlib.Core.Path.{ap, ◌∙◌}
 use Rattle.tokens.specs.Answer.{status_number}
-use borrow.Author.Rules.{rules}
 use Rattle.rc4hmac.proofs.messages.rc4hmac_checksum_test.Goals as goal
 
 pub returns : goal.returns

@@ -1,5 +1,4 @@
 -- What is handed out is the answer of the call, and the buffer is as it leaves it; so the call's demand is met by what is handed out.
-use borrow.Author.Rules.{rules}
 use Rattle.rc4hmac.proofs.messages.rc4hmac_decrypt.Goals as goal
 
 pub returns : goal.returns

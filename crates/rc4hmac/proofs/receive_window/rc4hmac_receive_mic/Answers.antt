@@ -1,6 +1,5 @@
 -- What is handed out is the answer of the call, and the window and the status are what came of the number; so the call's demand is met by
 -- what is handed out.
-use borrow.Author.Rules.{rules}
 use Rattle.rc4hmac.proofs.receive_window.rc4hmac_receive_mic.Goals as goal
 
 pub returns : goal.returns

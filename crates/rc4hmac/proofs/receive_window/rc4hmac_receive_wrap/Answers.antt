@@ -1,7 +1,6 @@
 -- What is handed out is the answer of the call, the buffer is as it leaves it, and the window and the status are what came of the number;
 -- so the call's demand is met by what is handed out.
 use Rattle.rc4hmac.proofs.Out.{opens_out}
-use borrow.Author.Rules.{rules}
 use Rattle.rc4hmac.proofs.receive_window.rc4hmac_receive_wrap.Goals as goal
 
 pub returns : goal.returns

@@ -1,6 +1,5 @@
 -- What is handed out is what came of the number.
 use mathlib.Core.Path.{refl}
-use borrow.Author.Rules.{rules}
 use Rattle.rc4hmac.proofs.receive_window.rc4hmac_window_bill.Goals as goal
 
 pub returns : goal.returns

@@ -1,6 +1,5 @@
 -- What is handed out is the new window.
 use mathlib.Core.Path.{refl}
-use borrow.Author.Rules.{rules}
 use Rattle.rc4hmac.proofs.receive_window.rc4hmac_window_new.Goals as goal
 
 pub returns : goal.returns

@@ -1,6 +1,5 @@
 -- The test as the definition makes it.
 use mathlib.Core.Path.{sym, ◌∙◌}
-use borrow.Author.Rules.{rules}
 use Rattle.tokens.specs.Answer.{tested}
 use Rattle.tokens.proofs.checks.equal.Goals as goal
 

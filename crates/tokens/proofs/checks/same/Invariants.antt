@@ -1,14 +1,9 @@
 -- The difference gathered so far is zero exactly where the octets so far are the same.
-use mathlib.Core.Path.{◌≡◌, refl, ap, ap₂, sym, ◌∙◌}
-use mathlib.Core.Bool.{Bool, ◌&&◌}
-use Prim.Native.Nat.{ℕ, ◌≤◌, ◌-◌}
-use native.Mathlib.Numerals.{add-one}
+use mathlib.Core.Path.{◌≡◌}
+use Prim.Native.Nat.{◌≤◌, ◌-◌}
 use lib.Dec.{eqb}
-use lib.ListN.{length, get_or, take}
-use lib.Seq.{take-length}
+use lib.ListN.{length, take}
 use Rattle.tokens.specs.Octets.{same}
-use Rattle.tokens.proofs.SameOctets.{not_same, same_more, no_difference}
-use native.Mathlib.Omega.{arith}
 use Rattle.tokens.proofs.checks.same.Given as goal
 
 abbrev pub invariant-loop-i : goal.invariant-loop-i

@@ -4,7 +4,6 @@ use mathlib.Core.List.{List}
 use Prim.Native.Nat.{ℕ}
 use Rattle.tokens.specs.Checksum as Spec
 use Rattle.tokens.proofs.Steps.{goes_on, stops, digest_refused, digest_done, named_status, named_type}
-use borrow.Author.Rules.{rules}
 use Rattle.tokens.proofs.checksum.checksum.Goals as goal
 
 pub returns-in_default : goal.returns-in_default

@@ -7,7 +7,6 @@ use Rattle.primitives.specs.declared.hash.Hash.{Hash}
 use Rattle.primitives.specs.declared.hash.Algorithm.TheVariants.{Md5 as is-md5}
 use Rattle.primitives.proofs.Laws.{hash_append, hash_digest}
 use Rattle.tokens.specs.Checksum.{checksum}
-use borrow.Author.Rules.{rules}
 use Rattle.tokens.proofs.checksum.checksum_of.Goals as goal
 
 pub returns : goal.returns

@@ -7,7 +7,6 @@ use Rattle.tokens.specs.Checksum as Spec
 use Rattle.tokens.specs.Answer.{tested}
 use Rattle.tokens.specs.declared.answer.Refusal.TheVariants.{Checksum}
 use Rattle.tokens.proofs.Steps.{goes_on, stops, status_refused, status_decided, named_status, named_type}
-use borrow.Author.Rules.{rules}
 use Rattle.tokens.proofs.checksum.checksum_test.Goals as goal
 
 pub returns-in_default : goal.returns-in_default

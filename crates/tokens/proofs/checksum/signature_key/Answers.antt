@@ -1,6 +1,5 @@
 -- The text is "signaturekey" with its closing zero.
 use Rattle.tokens.specs.Checksum.{signature_key}
-use borrow.Author.Rules.{rules}
 use Rattle.tokens.proofs.checksum.signature_key.Goals as goal
 
 pub returns : goal.returns

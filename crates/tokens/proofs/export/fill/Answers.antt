@@ -2,7 +2,6 @@
 use mathlib.Core.Path.{◌≡◌, ◌∙◌}
 use Rattle.tokens.specs.Strength.{export_fill}
 use Rattle.tokens.specs.declared.strength.Strength.TheVariants.{Export}
-use borrow.Author.Rules.{rules}
 use Rattle.tokens.proofs.export.fill.Goals as goal
 
 pub returns-in_default : goal.returns-in_default

@@ -1,7 +1,7 @@
 -- The first i units have been turned to octets.
 use mathlib.Core.Path.{◌≡◌, refl, ap, sym, ◌∙◌}
 use mathlib.Core.List.{◌++◌}
-use Prim.Native.Nat.{ℕ, ◌≤◌, ◌-◌, ◌*◌}
+use Prim.Native.Nat.{ℕ, ◌-◌, ◌*◌}
 use native.Mathlib.Numerals.{add-one}
 use lib.ListN.{length, take, replicate}
 use lib.Seq.{take-length}

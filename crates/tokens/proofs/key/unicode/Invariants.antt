@@ -1,13 +1,9 @@
 -- The first i units have been turned to octets.
-use mathlib.Core.Path.{◌≡◌, refl, ap, sym, ◌∙◌}
+use mathlib.Core.Path.{◌≡◌}
 use mathlib.Core.List.{◌++◌}
-use Prim.Native.Nat.{ℕ, ◌≤◌, ◌-◌, ◌*◌}
-use native.Mathlib.Numerals.{add-one}
+use Prim.Native.Nat.{◌≤◌, ◌-◌, ◌*◌}
 use lib.ListN.{length, take, replicate}
-use lib.Seq.{take-length}
 use Rattle.tokens.specs.Key.{unicode}
-use Rattle.tokens.proofs.Unicode.{stored}
-use native.Mathlib.Omega.{arith}
 use Rattle.tokens.proofs.key.unicode.Given as goal
 
 abbrev pub invariant-loop-i : goal.invariant-loop-i

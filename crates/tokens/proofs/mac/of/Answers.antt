@@ -3,7 +3,6 @@ use mathlib.Core.Path.{ap, ◌∙◌}
 use Rattle.primitives.proofs.Laws.{hmac_inner_outer}
 use Rattle.primitives.specs.Hash.{absorb, finished}
 use Rattle.primitives.specs.declared.hash.Hash.{Hash}
-use borrow.Author.Rules.{rules}
 use Rattle.tokens.proofs.mac.of.Goals as goal
 
 pub returns : goal.returns

@@ -4,7 +4,6 @@ use mathlib.Core.List.{◌++◌}
 use Rattle.primitives.proofs.Laws.{hash_append, hmac_inner_outer}
 use Rattle.primitives.specs.Hash.{absorb, finished}
 use Rattle.primitives.specs.declared.hash.Hash.{Hash}
-use borrow.Author.Rules.{rules}
 use Rattle.tokens.proofs.mac.of_two.Goals as goal
 
 pub returns : goal.returns

@@ -13,7 +13,6 @@ use Rattle.primitives.specs.Octets.{Octets}
 use Rattle.tokens.proofs.Steps.{goes_on, stops, was_refused, is_refused, buffer_refused, test_held, within_bounds, named_status, named_type}
 use Rattle.tokens.proofs.message.Exactly.{exact_clauses}
 use Rattle.tokens.proofs.message.Regions.{read_length, read_status, read_buffer}
-use borrow.Author.Rules.{rules}
 use native.Mathlib.Omega.{arith}
 use Rattle.tokens.proofs.message.decrypt.Goals as goal
 
@@ -76,7 +75,7 @@ returns-in_default-opened c =
     let sized : (24 ≤ c.args.len) × (c.args.len ≤ 32792) = within_bounds 24 32792 c.args.len (test_held _ _ (sym c.length-sized.ensures ∙ c.in-Done.is)) in
     let inside : let a = c.args in a.start + a.len ≤ length a.buf.now = leb-true _ _ (test_held _ _ (sym c.region-placed.ensures ∙ c.in-Done-placed.is)) in
     let passed : let a = c.args in
-    Spec.decryption a.key a.strength a.usage a.buf.now a.start a.len ≡ Spec.opened a.key a.strength (type_octets a.usage) (region a.start a.len a.buf.now) =    goes_on _ _ _ c.length-sized.ensures c.in-Done.is
+    Spec.decryption a.key a.strength a.usage a.buf.now a.start a.len ≡ Spec.opened a.key a.strength (type_octets a.usage) (region a.start a.len a.buf.now) = goes_on _ _ _ c.length-sized.ensures c.in-Done.is
     ∙ goes_on _ _ _ c.region-placed.ensures c.in-Done-placed.is
     ∙ goes_on _ _ _ (named_status _ c.new-named.ensures) c.in-Done-status.is in
     let type_is : c.new-named.result.usage.t ≡ type_octets c.args.usage = named_type _ c.new-named.ensures c.in-Done-status.is in
@@ -110,7 +109,7 @@ returns c =
     let sized : (24 ≤ c.args.len) × (c.args.len ≤ 32792) = within_bounds 24 32792 c.args.len (test_held _ _ (sym c.length-sized.ensures ∙ c.in-Done.is)) in
     let inside : let a = c.args in a.start + a.len ≤ length a.buf.now = leb-true _ _ (test_held _ _ (sym c.region-placed.ensures ∙ c.in-Done-placed.is)) in
     let passed : let a = c.args in
-    Spec.decryption a.key a.strength a.usage a.buf.now a.start a.len ≡ Spec.opened a.key a.strength (type_octets a.usage) (region a.start a.len a.buf.now) =    goes_on _ _ _ c.length-sized.ensures c.in-Done.is
+    Spec.decryption a.key a.strength a.usage a.buf.now a.start a.len ≡ Spec.opened a.key a.strength (type_octets a.usage) (region a.start a.len a.buf.now) = goes_on _ _ _ c.length-sized.ensures c.in-Done.is
     ∙ goes_on _ _ _ c.region-placed.ensures c.in-Done-placed.is
     ∙ goes_on _ _ _ (named_status _ c.new-named.ensures) c.in-Done-status.is in
     let type_is : c.new-named.result.usage.t ≡ type_octets c.args.usage = named_type _ c.new-named.ensures c.in-Done-status.is in

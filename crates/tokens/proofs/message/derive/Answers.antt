@@ -5,7 +5,6 @@ use Rattle.primitives.specs.Hmac.{hmac}
 use Rattle.tokens.specs.Message as Spec
 use Rattle.tokens.specs.Strength.{export_fill}
 use Rattle.tokens.proofs.Salts.{salt_fits, salt_text}
-use borrow.Author.Rules.{rules}
 use Rattle.tokens.proofs.message.derive.Goals as goal
 
 pub slice_bounds-octets-end : goal.slice_bounds-octets-end

@@ -1,6 +1,5 @@
 -- The checksum before what the run gave.
 use Rattle.tokens.proofs.message.Sealing.{sealed}
-use borrow.Author.Rules.{rules}
 use Rattle.tokens.proofs.message.seal.Goals as goal
 
 pub returns : goal.returns

@@ -9,8 +9,8 @@ use Rattle.tokens.proofs.message.unseal.Goals as goal
 pub returns-in_default : goal.returns-in_default
 returns-in_default c =
     let sized : length c.args.front.checksum ≡ 16 = search rules in
-    let ran :    let a = c.args in
-    Run a.key a.strength a.usage.t a.front.checksum (a.front.confounder ++ a.message.now) c.derive-keys.result.k1 c.derive-keys.result.k2 c.of-k3.result (c.run-plain.result ++ c.run-plain.new.body) =    record {
+    let ran : let a = c.args in
+    Run a.key a.strength a.usage.t a.front.checksum (a.front.confounder ++ a.message.now) c.derive-keys.result.k1 c.derive-keys.result.k2 c.of-k3.result (c.run-plain.result ++ c.run-plain.new.body) = record {
       k1_is = c.derive-keys.ensures.0;
       k2_is = c.derive-keys.ensures.1;
       k3_is = c.of-k3.ensures;
@@ -27,8 +27,8 @@ returns-in_default c =
 pub returns : goal.returns
 returns c =
     let sized : length c.args.front.checksum ≡ 16 = search rules in
-    let ran :    let a = c.args in
-    Run a.key a.strength a.usage.t a.front.checksum (a.front.confounder ++ a.message.now) c.derive-keys.result.k1 c.derive-keys.result.k2 c.of-k3.result (c.run-plain.result ++ c.run-plain.new.body) =    record {
+    let ran : let a = c.args in
+    Run a.key a.strength a.usage.t a.front.checksum (a.front.confounder ++ a.message.now) c.derive-keys.result.k1 c.derive-keys.result.k2 c.of-k3.result (c.run-plain.result ++ c.run-plain.new.body) = record {
       k1_is = c.derive-keys.ensures.0;
       k2_is = c.derive-keys.ensures.1;
       k3_is = c.of-k3.ensures;

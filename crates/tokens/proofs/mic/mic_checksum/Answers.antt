@@ -3,7 +3,6 @@ use mathlib.Core.Path.{refl, sym}
 use Rattle.primitives.proofs.Laws.{little_endian_four}
 use Rattle.tokens.specs.Mic.{mic_checksum, header, message_type}
 use Rattle.tokens.proofs.SignedText.{signed}
-use borrow.Author.Rules.{rules}
 use Rattle.tokens.proofs.mic.mic_checksum.Goals as goal
 
 pub returns : goal.returns

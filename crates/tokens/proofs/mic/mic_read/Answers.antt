@@ -10,7 +10,6 @@ use Rattle.tokens.specs.Limits.{region}
 use Rattle.tokens.specs.Mic as Spec
 use Rattle.tokens.proofs.Steps.{goes_on, stops, is_refused, test_held, within_bounds}
 use Rattle.tokens.proofs.mic.Exactly.{exact_clauses}
-use borrow.Author.Rules.{rules}
 use native.Mathlib.Omega.{arith}
 use Rattle.tokens.proofs.mic.mic_read.Goals as goal
 
@@ -48,7 +47,7 @@ returns-in_default-placed c =
 
 pub twenty_four-requires : goal.twenty_four-requires
 twenty_four-requires c =
-    let twenty-four : c.args.len ≡ 24 =     let bounds = within_bounds 24 24 c.args.len (test_held _ _ (sym c.length-whole.ensures ∙ c.in-Done-whole.is)) in
+    let twenty-four : c.args.len ≡ 24 = let bounds = within_bounds 24 24 c.args.len (test_held _ _ (sym c.length-whole.ensures ∙ c.in-Done-whole.is)) in
     omega (arith, bounds.0, bounds.1) in
     let inside : let a = c.args in a.start + a.len ≤ length a.buf.now = leb-true _ _ (test_held _ _ (sym c.region-placed.ensures ∙ c.in-Done-placed.is)) in
     omega (arith, inside, twenty-four)
@@ -57,7 +56,7 @@ pub returns : goal.returns
 unfolding Spec.mic_reading
 returns c =
     let bytes : Octets c.args.buf.now = λ i. (c.shared_slice_known-2-1.given i).fits in
-    let twenty-four : c.args.len ≡ 24 =     let bounds = within_bounds 24 24 c.args.len (test_held _ _ (sym c.length-whole.ensures ∙ c.in-Done-whole.is)) in
+    let twenty-four : c.args.len ≡ 24 = let bounds = within_bounds 24 24 c.args.len (test_held _ _ (sym c.length-whole.ensures ∙ c.in-Done-whole.is)) in
     omega (arith, bounds.0, bounds.1) in
     let a = c.args in
     let size = twenty-four in

@@ -1,8 +1,7 @@
 -- The first i octets have been copied.
 use mathlib.Core.Path.{◌≡◌, refl, ◌∙◌}
-use Prim.Native.Nat.{◌≤◌, ◌-◌}
 use native.Mathlib.Numerals.{add-one}
-use lib.ListN.{length, length-set}
+use lib.ListN.{length-set}
 use lib.Seq.{paste, paste-zero, paste-suc}
 use Rattle.tokens.proofs.Placing.{pasted}
 use native.Mathlib.Omega.{arith}

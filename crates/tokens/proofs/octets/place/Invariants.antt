@@ -1,11 +1,8 @@
 -- The first i octets have been copied.
-use mathlib.Core.Path.{◌≡◌, refl, ◌∙◌}
+use mathlib.Core.Path.{◌≡◌}
 use Prim.Native.Nat.{◌≤◌, ◌-◌}
-use native.Mathlib.Numerals.{add-one}
-use lib.ListN.{length, length-set}
-use lib.Seq.{paste, paste-zero, paste-suc}
-use Rattle.tokens.proofs.Placing.{pasted}
-use native.Mathlib.Omega.{arith}
+use lib.ListN.{length}
+use lib.Seq.{paste}
 use Rattle.tokens.proofs.octets.place.Given as goal
 
 abbrev pub invariant-loop-i : goal.invariant-loop-i

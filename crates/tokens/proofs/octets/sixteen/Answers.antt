@@ -1,6 +1,5 @@
 -- The octets fill the array.
 use mathlib.Core.Path.{◌∙◌}
-use Prim.Native.Nat.{◌-◌}
 use Rattle.tokens.proofs.Placing.{part_whole, part_fits}
 use borrow.Author.Rules.{rules}
 use Rattle.tokens.proofs.octets.sixteen.Goals as goal

@@ -1,6 +1,5 @@
 -- A step that is done is none of these.
 use mathlib.Core.Path.{subst}
-use borrow.Author.Rules.{rules}
 use Rattle.tokens.specs.Answer.{IsRefused}
 use Rattle.tokens.proofs.refused.by.Goals as goal
 

@@ -2,7 +2,6 @@
 use mathlib.Core.Path.{ap, ◌∙◌}
 use Rattle.primitives.specs.Rc4.{apply}
 use Rattle.primitives.specs.declared.rc4.Rc4.{Rc4}
-use borrow.Author.Rules.{rules}
 use Rattle.tokens.proofs.stream.eight.Goals as goal
 
 pub returns : goal.returns

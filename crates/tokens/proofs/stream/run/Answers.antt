@@ -6,7 +6,6 @@ use lib.ListN.{length}
 use Rattle.primitives.specs.Rc4.{after, apply, key_schedule}
 use Rattle.primitives.specs.declared.rc4.Rc4.{Rc4}
 use Rattle.primitives.proofs.Laws.{apply_append}
-use borrow.Author.Rules.{rules}
 use Rattle.tokens.proofs.stream.run.Goals as goal
 
 pub returns : goal.returns

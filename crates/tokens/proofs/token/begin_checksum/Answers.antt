@@ -4,7 +4,6 @@ use Rattle.primitives.specs.Hash.{absorb, begun}
 use Rattle.primitives.specs.declared.hash.Hash.{Hash}
 use Rattle.primitives.specs.declared.hash.Algorithm.TheVariants.{Md5}
 use Rattle.primitives.proofs.Laws.{hash_append}
-use borrow.Author.Rules.{rules}
 use Rattle.tokens.proofs.token.begin_checksum.Goals as goal
 
 pub returns : goal.returns

@@ -1,7 +1,6 @@
 -- The octets of each sender.
 use mathlib.Core.Path.{refl}
 use Rattle.tokens.specs.Token as Spec
-use borrow.Author.Rules.{rules}
 use Rattle.tokens.proofs.token.direction.Goals as goal
 
 pub returns-in-Initiator : goal.returns-in-Initiator

@@ -2,7 +2,6 @@
 use mathlib.Core.Path.{ap, ap₂, ◌∙◌}
 use lib.ListN.{take}
 use Rattle.primitives.specs.Hmac.{hmac}
-use borrow.Author.Rules.{rules}
 use Rattle.tokens.proofs.token.finish_checksum.Goals as goal
 
 pub returns : goal.returns

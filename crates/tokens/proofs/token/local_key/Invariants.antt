@@ -1,14 +1,10 @@
 -- The first i octets have been combined with F0.
-use mathlib.Core.Path.{◌≡◌, refl, sym, subst, ◌∙◌}
-use mathlib.Core.List.{List, [], ◌∷◌, map}
-use Prim.Native.Nat.{ℕ, zero, suc, ◌+◌, ◌-◌, ◌<◌, ◌≤◌}
-use native.Mathlib.Numerals.{add-one}
+use mathlib.Core.Path.{◌≡◌}
+use mathlib.Core.List.{List, map}
+use Prim.Native.Nat.{ℕ, ◌-◌, ◌≤◌}
 use lib.Bits.{bit_xor}
-use lib.ListN.{length, get_or, set, length-set, length-map}
-use lib.Seq.{paste, paste-zero, paste-suc}
-use Rattle.tokens.specs.Token.{local_key}
-use Rattle.tokens.proofs.Placing.{pasted, placed_all}
-use native.Mathlib.Omega.{arith}
+use lib.ListN.{length}
+use lib.Seq.{paste}
 use Rattle.tokens.proofs.token.local_key.Given as goal
 
 abbrev pub combined : List ℕ → List ℕ

@@ -1,6 +1,5 @@
 -- The four octets as the definition has them.
 use Rattle.tokens.specs.Token.{number_of}
-use borrow.Author.Rules.{rules}
 use Rattle.tokens.proofs.token.number_of.Goals as goal
 
 pub returns : goal.returns

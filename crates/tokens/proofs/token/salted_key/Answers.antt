@@ -7,7 +7,6 @@ use Rattle.primitives.proofs.Laws.{little_endian_four}
 use Rattle.tokens.specs.Token.{salted_key}
 use Rattle.tokens.specs.Strength.{salt, export_fill}
 use Rattle.tokens.proofs.Salts.{salt_fits, salt_text}
-use borrow.Author.Rules.{rules}
 use Rattle.tokens.proofs.token.salted_key.Goals as goal
 
 pub slice_bounds-octets-end : goal.slice_bounds-octets-end

@@ -2,7 +2,6 @@
 use mathlib.Core.Path.{ap, ap₂, ◌∙◌}
 use Rattle.primitives.specs.Hmac.{hmac}
 use Rattle.tokens.specs.Token.{salted_key, sealing_key}
-use borrow.Author.Rules.{rules}
 use Rattle.tokens.proofs.token.sealing_key.Goals as goal
 
 pub returns : goal.returns

@@ -4,7 +4,6 @@ use mathlib.Core.List.{List}
 use Prim.Native.Nat.{ℕ}
 use Rattle.primitives.specs.Hmac.{hmac}
 use Rattle.tokens.specs.Token.{sequence_key}
-use borrow.Author.Rules.{rules}
 use Rattle.tokens.proofs.token.sequence_key.Goals as goal
 
 pub returns : goal.returns

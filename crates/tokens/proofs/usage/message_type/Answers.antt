@@ -1,6 +1,5 @@
 -- The rule is that of the list.
 use Rattle.tokens.proofs.MessageTypes.{first_type, shared_type, own_type}
-use borrow.Author.Rules.{rules}
 use native.Mathlib.Omega.{arith}
 use Rattle.tokens.proofs.usage.message_type.Goals as goal
 

@@ -1,5 +1,4 @@
 -- A refusal is handed on.
-use borrow.Author.Rules.{rules}
 use Rattle.tokens.proofs.wrap.sealing_status.Goals as goal
 
 pub returns-in-Refused : goal.returns-in-Refused

@@ -4,7 +4,6 @@ use mathlib.Core.List.{List, ◌++◌}
 use Prim.Native.Nat.{ℕ}
 use Rattle.primitives.specs.Rc4.{rc4}
 use Rattle.tokens.specs.Wrap as Spec
-use borrow.Author.Rules.{rules}
 use Rattle.tokens.proofs.wrap.under_seal.Goals as goal
 
 pub returns-then-sealed : goal.returns-then-sealed

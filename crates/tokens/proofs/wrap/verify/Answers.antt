@@ -1,6 +1,5 @@
 -- The checksum, and then the last octet.
 use Rattle.tokens.proofs.wrap.Opening.{checksum_refused, pad_found, pad_refused}
-use borrow.Author.Rules.{rules}
 use Rattle.tokens.proofs.wrap.verify.Goals as goal
 
 pub returns-in_default : goal.returns-in_default

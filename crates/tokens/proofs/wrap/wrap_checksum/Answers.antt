@@ -5,7 +5,6 @@ use Rattle.primitives.specs.declared.hash.Hash.{Hash}
 use Rattle.primitives.proofs.Laws.{little_endian_four}
 use Rattle.tokens.specs.Wrap.{wrap_checksum, header, message_type}
 use Rattle.tokens.proofs.SignedText.{signed_two}
-use borrow.Author.Rules.{rules}
 use Rattle.tokens.proofs.wrap.wrap_checksum.Goals as goal
 
 pub returns : goal.returns

@@ -11,7 +11,6 @@ use Rattle.tokens.specs.Wrap as Spec
 use Rattle.tokens.proofs.Steps.{goes_on, stops, is_refused, buffer_refused, test_held, within_bounds}
 use Rattle.tokens.proofs.wrap.Exactly.{exact_clauses}
 use Rattle.tokens.proofs.wrap.Regions.{opened_answer, opened_buffer_lem}
-use borrow.Author.Rules.{rules}
 use native.Mathlib.Omega.{arith}
 use Rattle.tokens.proofs.wrap.wrap_open.Goals as goal
 
@@ -57,7 +56,7 @@ returns c =
     let bytes : Octets c.args.buf.now = λ i. (c.slice_known-1.given i).fits in
     let sized : 33 ≤ c.args.len = (within_bounds 33 32801 c.args.len (test_held _ _ (sym c.length-sized.ensures ∙ c.in-Done.is))).0 in
     let inside : let a = c.args in a.start + a.len ≤ length a.buf.now = leb-true _ _ (test_held _ _ (sym c.region-placed.ensures ∙ c.in-Done-placed.is)) in
-    let passed : let a = c.args in Spec.wrap_opening a.context a.buf.now a.start a.len ≡ Spec.opened a.context (region a.start a.len a.buf.now) =    goes_on _ _ _ c.length-sized.ensures c.in-Done.is ∙ goes_on _ _ _ c.region-placed.ensures c.in-Done-placed.is in
+    let passed : let a = c.args in Spec.wrap_opening a.context a.buf.now a.start a.len ≡ Spec.opened a.context (region a.start a.len a.buf.now) = goes_on _ _ _ c.length-sized.ensures c.in-Done.is ∙ goes_on _ _ _ c.region-placed.ensures c.in-Done-placed.is in
     let a = c.args in
     let k = a.start + a.len - a.start in
     let part : k ≡ a.len = omega arith in

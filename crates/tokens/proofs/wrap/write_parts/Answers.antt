@@ -3,7 +3,6 @@ use mathlib.Core.Path.{◌∙◌}
 use Prim.Native.Nat.{◌-◌}
 use lib.ListN.{length, length-set}
 use Rattle.tokens.proofs.wrap.Opening.{parts_written}
-use borrow.Author.Rules.{rules}
 use Rattle.tokens.proofs.wrap.write_parts.Goals as goal
 
 pub shape_of-body : goal.shape_of-body

@@ -1,5 +1,4 @@
 -- The four fields.
-use Rattle.std.proofs.Common.{rules}
 use Rattle.billing.proofs.window.Window.advanced.Goals as goal
 
 pub returns : goal.returns

@@ -1,5 +1,5 @@
 -- The binary digit at the place.
-use Rattle.std.proofs.Common.{sym, rules, eq-eqb, ne_eqb}
+use Rattle.std.proofs.Common.{sym, eq-eqb, ne_eqb}
 use Rattle.billing.specs.Window.{is_marked}
 use Rattle.billing.proofs.window.Window.is_marked.Goals as goal
 

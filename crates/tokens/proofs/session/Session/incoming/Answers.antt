@@ -1,6 +1,5 @@
 -- The three fields, of which the sender is the other role.
 use Rattle.tokens.specs.Session.{incoming}
-use borrow.Author.Rules.{rules}
 use Rattle.tokens.proofs.session.Session.incoming.Goals as goal
 
 pub returns : goal.returns

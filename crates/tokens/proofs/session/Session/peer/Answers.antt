@@ -1,6 +1,5 @@
 -- The four fields, of which the role is the other one.
 use Rattle.tokens.specs.Session.{peer}
-use borrow.Author.Rules.{rules}
 use Rattle.tokens.proofs.session.Session.peer.Goals as goal
 
 pub returns : goal.returns

@@ -45,10 +45,13 @@ fn run(rt: HostRuntime, at: usize) -> Exit
     }
 }
 
-// With `--status` as its first word, the program ends with the status 0, 1 or 2, and without it always with 0.
+// With `--status` as its first word, the program writes 0, 1 or 2 on descriptor 3 when it ends, and ends with that status. Without it
+// the status is always 0.
 fn main(rt: HostRuntime) -> ExitCode {
     if arguments::asks_status(rt, 1) {
-        return ExitCode::from(run(rt, 2).number());
+        let number = run(rt, 2).number();
+        output::status(rt, number);
+        return ExitCode::from(number);
     }
     run(rt, 1);
     ExitCode::SUCCESS

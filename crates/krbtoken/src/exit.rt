@@ -9,7 +9,7 @@ pub enum Exit {
 
 impl Exit {
     // The number that stands for it.
-    pub fn number(self) -> u8 {
+    pub fn number(self) -> u64 {
         match self {
             Exit::Done => 0,
             Exit::Refused => 1,

@@ -16,7 +16,6 @@ mod wrap_tokens;
 ghost use Rattle.std.specs.Prelude.{◌≤◌};
 
 use exit::Exit;
-use std::process::ExitCode;
 use text::words::Verb;
 
 // Does what the word at `at` and those after it ask for.
@@ -45,14 +44,11 @@ fn run(rt: HostRuntime, at: usize) -> Exit
     }
 }
 
-// With `--status` as its first word, the program writes 0, 1 or 2 on descriptor 3 when it ends, and ends with that status. Without it
-// the status is always 0.
-fn main(rt: HostRuntime) -> ExitCode {
+// With `--status` as its first word, the program writes 0, 1 or 2 on descriptor 3 when it ends. Its own exit status is always 0.
+fn main(rt: HostRuntime) {
     if arguments::asks_status(rt, 1) {
-        let number = run(rt, 2).number();
-        output::status(rt, number);
-        return ExitCode::from(number);
+        output::status(rt, run(rt, 2).number());
+    } else {
+        run(rt, 1);
     }
-    run(rt, 1);
-    ExitCode::SUCCESS
 }

@@ -36,7 +36,7 @@ pub fn fail(rt: HostRuntime, what: &[u8], error: io::Error) -> Exit {
 
 // Writes the number of a status on descriptor 3, which std knows by its path alone. Not every caller has opened it. It is opened for
 // reading too, since opening a fifo for writing alone waits for a reader.
-pub fn status(rt: HostRuntime, number: u8) {
+pub fn status(rt: HostRuntime, number: u64) {
     if let Ok(mut file) = File::options()
         .read(true)
         .append(true)

@@ -22,9 +22,8 @@ returns-in_default c =
 
 pub unicode-octets-requires : goal.unicode-octets-requires
 unicode-octets-requires c =
-    let most : length c.args.units.now ≤ 256 = let n = length c.args.units.now in
-    (within_bounds 0 256 n (test_held _ _ (sym c.length-status.ensures ∙ c.in-Done.is))).1 in
-    most
+    let n = length c.args.units.now in
+    (within_bounds 0 256 n (test_held _ _ (sym c.length-status.ensures ∙ c.in-Done.is))).1
 
 pub overflow_mul-octets : goal.overflow_mul-octets
 overflow_mul-octets c =
@@ -36,8 +35,7 @@ pub slice_bounds-octets-end : goal.slice_bounds-octets-end
 slice_bounds-octets-end c =
     let most : length c.args.units.now ≤ 256 = let n = length c.args.units.now in
     (within_bounds 0 256 n (test_held _ _ (sym c.length-status.ensures ∙ c.in-Done.is))).1 in
-    let fits : 2 * length c.args.units.now ≤ length c.unicode-octets.result = let size : length c.unicode-octets.result ≡ 512 = search rules in omega (arith, most) in
-    fits
+    let size : length c.unicode-octets.result ≡ 512 = search rules in omega (arith, most)
 
 pub slice_bounds-update-end : goal.slice_bounds-update-end
 slice_bounds-update-end c =

@@ -1,6 +1,4 @@
 -- The refusals of the header, the direction and the checksum, in their order, or the number.
--- where the header has been passed
--- where the number is there too
 use mathlib.Core.Path.{◌≡◌, ap, ap₂, sym, ◌∙◌}
 use mathlib.Core.List.{List}
 use Prim.Native.Nat.{ℕ}

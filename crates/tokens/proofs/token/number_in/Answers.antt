@@ -1,5 +1,4 @@
 -- Kseq, SND_SEQ under it, and the test of its direction octets.
--- the test that was made is the definition's
 use mathlib.Core.Path.{◌≡◌, ap, ap₂, ◌∙◌}
 use mathlib.Core.List.{List}
 use Prim.Native.Nat.{ℕ}

@@ -1,6 +1,5 @@
 -- The refusals of the length and the region, in their order, or the region opened; and from that, that opening succeeds exactly on
 -- what the rule writes.
--- where both have been passed
 use mathlib.Core.Path.{◌≡◌, sym, ap, ◌∙◌}
 use Prim.Native.Nat.{◌+◌, ◌-◌, ◌≤◌}
 use lib.ListN.{length, length-take, length-drop}

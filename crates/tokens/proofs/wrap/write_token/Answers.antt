@@ -1,5 +1,4 @@
 -- The front, the confounder and then message and pad, which were written in their place.
--- the message of a region is that of its body
 use mathlib.Core.Path.{◌≡◌, ap, ◌∙◌}
 use mathlib.Core.List.{List}
 use Prim.Native.Nat.{ℕ, ◌-◌, ◌≤◌}
@@ -12,6 +11,7 @@ use borrow.Author.Rules.{rules}
 use native.Mathlib.Omega.{arith}
 use Rattle.tokens.proofs.wrap.write_token.Goals as goal
 
+-- the message of a region is that of its body
 message : (region : List ℕ) → 33 ≤ length region
     → take (length (take (length region - 32) (drop 32 region)) - 1) (take (length region - 32) (drop 32 region)) ≡ take (length region - 33) (drop 32 region)
 message region least =

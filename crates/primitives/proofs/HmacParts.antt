@@ -3,7 +3,7 @@ use Rattle.std.proofs.Common.{◌≡◌, ℕ, ◌≤◌, List, ◌++◌, length,
 use Rattle.primitives.specs.Hash as Hash
 use Rattle.primitives.specs.Hash.{md5}
 use Rattle.primitives.specs.Hmac.{filled, xor_pad, key_block, hmac, after_key, begun, absorb, finished}
-use Rattle.primitives.specs.declared.hash.Algorithm.TheVariants.{Md5 as is-md5}
+use Rattle.primitives.specs.declared.hash.Algorithm.TheVariants.{Md5 as is_md5}
 use Rattle.primitives.specs.declared.hash.Hash.{Hash as State}
 use Rattle.primitives.specs.declared.hmac.Hmac.{Hmac}
 use Rattle.primitives.proofs.Absorb.{absorb_append}
@@ -14,15 +14,15 @@ unfolding absorb
 hmac_absorb_append h xs ys = ap (λ (i : State). record { inner = i; outer = h.outer }) (absorb_append h.inner xs ys)
 
 -- two parts of a message
-two_parts : (xs ys : List ℕ) → Hash.finished (Hash.absorb (Hash.absorb (Hash.begun is-md5) xs) ys) ≡ md5 (xs ++ ys)
-two_parts xs ys = ap Hash.finished (sym (absorb_append (Hash.begun is-md5) xs ys)) ∙ finished_digest is-md5 (xs ++ ys)
+two_parts : (xs ys : List ℕ) → Hash.finished (Hash.absorb (Hash.absorb (Hash.begun is_md5) xs) ys) ≡ md5 (xs ++ ys)
+two_parts xs ys = ap Hash.finished (sym (absorb_append (Hash.begun is_md5) xs ys)) ∙ finished_digest is_md5 (xs ++ ys)
 
 pub finished_hmac : (key text : List ℕ) → finished (absorb (begun key) text) ≡ hmac key text
 unfolding after_key begun absorb finished hmac
 finished_hmac key text =
     let ipad = xor_pad 0x36 (key_block key) in
     let opad = xor_pad 0x5c (key_block key) in
-    ap (λ (d : List ℕ). Hash.finished (Hash.absorb (Hash.absorb (Hash.begun is-md5) opad) d)) (two_parts ipad text)
+    ap (λ (d : List ℕ). Hash.finished (Hash.absorb (Hash.absorb (Hash.begun is_md5) opad) d)) (two_parts ipad text)
     ∙ two_parts opad (md5 (ipad ++ text))
 
 -- a key that is no longer than a block is filled as it is
@@ -38,4 +38,4 @@ inner_outer key text ed ec = ec ∙ ap (λ (d : List ℕ). Hash.finished (Hash.a
 
 pub hmac_length : (key text : List ℕ) → length (hmac key text) ≡ 16
 unfolding hmac
-hmac_length key text = digest_length is-md5 (xor_pad 0x5c (key_block key) ++ md5 (xor_pad 0x36 (key_block key) ++ text))
+hmac_length key text = digest_length is_md5 (xor_pad 0x5c (key_block key) ++ md5 (xor_pad 0x36 (key_block key) ++ text))

@@ -14,7 +14,7 @@ bits_of : ℕ → ℕ
 bits_of zero = 0
 bits_of (suc n) = bits_of n + 8
 
--- only the low_order bits of a number count
+-- only the low-order bits of a number count
 low_order : (n x : ℕ) → little_endian n (x % 2 ^ bits_of n) ≡ little_endian n x
 unfolding little_endian bits_of
 low_order zero x = refl

@@ -5,7 +5,7 @@ use Rattle.primitives.specs.Md4 as Md4
 use Rattle.primitives.specs.Md5 as Md5
 use Rattle.primitives.specs.declared.hash.Words.{Words}
 use Rattle.primitives.specs.declared.hash.Algorithm.{Algorithm}
-use Rattle.primitives.specs.declared.hash.Algorithm.TheVariants.{Md4 as is-md4, Md5 as is-md5}
+use Rattle.primitives.specs.declared.hash.Algorithm.TheVariants.{Md4 as is_md4, Md5 as is_md5}
 use Rattle.primitives.specs.declared.hash.Hash.{Hash}
 
 -- Section 3.1: after n octets and the octet 80, the fewest zeros that lead to a length of 56 modulo 64
@@ -13,7 +13,7 @@ abbrev pub zeros : ℕ → ℕ
 zeros n = (119 - n % 64) % 64
 
 -- Sections 3.1 and 3.2: after a message of n octets the octet 80, zeros, and the number of bits as eight octets, the lowest
--- first; of a number that needs more than eight, the low_order eight
+-- first; of a number that needs more than eight, the low-order eight
 unfoldable pub padding : ℕ → List ℕ
 padding n = 0x80 ∷ replicate (zeros n) 0 ++ little_endian 8 (8 * n)
 
@@ -30,15 +30,15 @@ initial = record { a = 0x67452301; b = 0xefcdab89; c = 0x98badcfe; d = 0x1032547
 
 -- Section 3.4: one block
 abbrev pub compress : Algorithm → Words → List ℕ → Words
-compress is-md4 w block = Md4.compress w block
-compress is-md5 w block = Md5.compress w block
+compress is_md4 w block = Md4.compress w block
+compress is_md5 w block = Md5.compress w block
 
 -- the words after the first n blocks of 64 octets
 unfoldable pub after_blocks : Algorithm → ℕ → List ℕ → Words
 after_blocks g zero octets = initial
 after_blocks g (suc n) octets = compress g (after_blocks g n octets) (take 64 (drop (64 * n) octets))
 
--- Section 3.5: A, B, C and D, each with its low_order octet first
+-- Section 3.5: A, B, C and D, each with its low-order octet first
 unfoldable pub output : Words → List ℕ
 output w = little_endian 4 w.a ++ (little_endian 4 w.b ++ (little_endian 4 w.c ++ little_endian 4 w.d))
 
@@ -47,10 +47,10 @@ unfoldable pub digest : Algorithm → List ℕ → List ℕ
 digest g message = output (after_blocks g (blocks message) (padded message))
 
 abbrev pub md4 : List ℕ → List ℕ
-md4 message = digest is-md4 message
+md4 message = digest is_md4 message
 
 abbrev pub md5 : List ℕ → List ℕ
-md5 message = digest is-md5 message
+md5 message = digest is_md5 message
 
 -- ---- A message in parts. Every value of the state is legal. The documents say nothing of a state that no message leads to:
 -- its words, block and count are then taken as they stand.

@@ -2,7 +2,7 @@
 use Rattle.std.specs.Prelude.{ℕ, ◌-◌, cond, List, ◌++◌, map, length, replicate, bit_xor, nat_le}
 use Rattle.primitives.specs.Hash as Hash
 use Rattle.primitives.specs.Hash.{md5}
-use Rattle.primitives.specs.declared.hash.Algorithm.TheVariants.{Md5 as is-md5}
+use Rattle.primitives.specs.declared.hash.Algorithm.TheVariants.{Md5 as is_md5}
 use Rattle.primitives.specs.declared.hash.Hash.{Hash as HashState}
 use Rattle.primitives.specs.declared.hmac.Hmac.{Hmac}
 
@@ -30,7 +30,7 @@ hmac key text = md5 (xor_pad 0x5c (key_block key) ++ md5 (xor_pad 0x36 (key_bloc
 
 -- the state of a hash after the key as a block, xor a pad
 unfoldable pub after_key : ℕ → List ℕ → HashState
-after_key pad key = Hash.absorb (Hash.begun is-md5) (xor_pad pad (key_block key))
+after_key pad key = Hash.absorb (Hash.begun is_md5) (xor_pad pad (key_block key))
 
 -- before the first octet of the text
 unfoldable pub begun : List ℕ → Hmac

@@ -10,7 +10,7 @@ unfoldable pub joined : List (List ℕ) → List ℕ
 joined [] = []
 joined (part ∷ parts) = part ++ joined parts
 
--- the n low_order octets of x, the lowest first
+-- the n low-order octets of x, the lowest first
 unfoldable pub little_endian : ℕ → ℕ → List ℕ
 little_endian zero x = []
 little_endian (suc n) x = x % 256 ∷ little_endian n (x / 256)

@@ -22,7 +22,7 @@ aux_f x y z = bit_or (bit_and x y) (bit_and (complement x) z)
 abbrev pub aux_h : ℕ → ℕ → ℕ → ℕ
 aux_h x y z = bit_xor (bit_xor x y) z
 
--- the word X[j] of a block: four octets, the low_order one first
+-- the word X[j] of a block: four octets, the low-order one first
 abbrev pub word_at : List ℕ → ℕ → ℕ
 word_at block j =
     slice_index block (4 * j) + slice_index block (4 * j + 1) * 2 ^ 8 + slice_index block (4 * j + 2) * 2 ^ 16 + slice_index block (4 * j + 3) * 2 ^ 24

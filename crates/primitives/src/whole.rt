@@ -1,7 +1,7 @@
 // The calls on whole slices, within the limits of their lengths.
 ghost use Rattle.std.specs.Prelude.{◌≡◌};
 ghost use Rattle.primitives.specs.Whole as Spec;
-ghost use Rattle.primitives.specs.declared.hash.Algorithm.TheVariants.{Md4 as is-md4, Md5 as is-md5};
+ghost use Rattle.primitives.specs.declared.hash.Algorithm.TheVariants.{Md4 as is_md4, Md5 as is_md5};
 
 use crate::hash::{Algorithm, Hash};
 use crate::hmac::Hmac;
@@ -42,14 +42,14 @@ fn digest_of(algorithm: Algorithm, data: &[u8]) -> Digest
 
 // The MD4 digest of 0 to 65,536 octets.
 pub fn md4(data: &[u8]) -> Digest
-    ensures { result ≡ Spec.digested is-md4 «data».now }
+    ensures { result ≡ Spec.digested is_md4 «data».now }
 {
     digest_of(Algorithm::Md4, data)
 }
 
 // The MD5 digest of 0 to 65,536 octets.
 pub fn md5(data: &[u8]) -> Digest
-    ensures { result ≡ Spec.digested is-md5 «data».now }
+    ensures { result ≡ Spec.digested is_md5 «data».now }
 {
     digest_of(Algorithm::Md5, data)
 }

@@ -1,7 +1,7 @@
 // MD4, MD5, HMAC-MD5 and RC4 for C.
 ghost use Rattle.std.specs.Prelude.{◌≡◌};
 ghost use Rattle.primitives.specs.Whole.{digested, authenticated};
-ghost use Rattle.primitives.specs.declared.hash.Algorithm.TheVariants.{Md4 as is-md4, Md5 as is-md5};
+ghost use Rattle.primitives.specs.declared.hash.Algorithm.TheVariants.{Md4 as is_md4, Md5 as is_md5};
 ghost use Rattle.rc4hmac.specs.Primitives.{number, DigestOut, TextOut};
 
 use primitives::limits::Status;
@@ -31,14 +31,14 @@ fn hand_out(answer: Digest, digest: &mut [u8; 16]) -> u32
 
 #[unsafe(no_mangle)]
 pub extern "C" fn rc4hmac_md4(data: &[u8], digest: &mut [u8; 16]) -> u32
-    ensures { DigestOut (digested is-md4 «data».now) result digest.new }
+    ensures { DigestOut (digested is_md4 «data».now) result digest.new }
 {
     hand_out(whole::md4(data), digest)
 }
 
 #[unsafe(no_mangle)]
 pub extern "C" fn rc4hmac_md5(data: &[u8], digest: &mut [u8; 16]) -> u32
-    ensures { DigestOut (digested is-md5 «data».now) result digest.new }
+    ensures { DigestOut (digested is_md5 «data».now) result digest.new }
 {
     hand_out(whole::md5(data), digest)
 }

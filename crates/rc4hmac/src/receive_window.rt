@@ -1,7 +1,7 @@
 // The receive window for C: numbers handed in, and tokens received, with their frame or without.
 ghost use Rattle.std.specs.Prelude.{◌≡◌, ◌+◌};
 ghost use Rattle.billing.specs.Receive.{presented_by, received};
-ghost use Rattle.billing.specs.Window.{new_window, missing as missingIn};
+ghost use Rattle.billing.specs.Window.{new_window, missing as missing_in};
 ghost use Rattle.frame.specs.Mic as FramedMic;
 ghost use Rattle.frame.specs.Wrap as FramedWrap;
 ghost use Rattle.tokens.specs.Answer.{sequence_answer};
@@ -41,7 +41,7 @@ pub extern "C" fn rc4hmac_window_bill(window: &mut [u64; 4], sequence: u32, stat
 #[unsafe(no_mangle)]
 pub extern "C" fn rc4hmac_window_missing(window: &[u64; 4], missing: &mut u32) -> u32
     ensures answer { result ≡ 0 }
-    ensures missing { missing.new ≡ missingIn (window_of window.now) }
+    ensures missing { missing.new ≡ missing_in (window_of window.now) }
 {
     let words = *window;
     *missing = arguments::window_of(words).missing();

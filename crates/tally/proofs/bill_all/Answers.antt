@@ -7,7 +7,7 @@ use lib.ListN.{length, take, get_or}
 use lib.Seq.{take-suc, take_all}
 use Rattle.billing.specs.Clerk.{clerk_billed, clerk_missing}
 use Rattle.billing.specs.Session.{presented, window_after, SequenceNumbers, distinct_numbers}
-use Rattle.billing.specs.Window.{step, missing as missingIn}
+use Rattle.billing.specs.Window.{step, missing as missing_in}
 use Rattle.billing.specs.declared.window.Receipt.{Receipt}
 use Rattle.billing.specs.declared.window.Window.{Window}
 use Rattle.billing.proofs.Laws.{bills_once, presented_numbers, reversed_numbers}
@@ -29,7 +29,7 @@ one_more first numbers i h =
 
 -- what a session comes to
 counted : (first : ℕ) (numbers : List ℕ) → ((i : ℕ) → get_or numbers i 0 < sequence_numbers)
-    → ◌≡◌ {A = Tally} (record { billed = (window_after first (tokens_of numbers)).billed; missing = missingIn (window_after first (tokens_of numbers)) }) (clerk_tally first numbers)
+    → ◌≡◌ {A = Tally} (record { billed = (window_after first (tokens_of numbers)).billed; missing = missing_in (window_after first (tokens_of numbers)) }) (clerk_tally first numbers)
 counted first numbers fits =
     let same = presented_numbers (reverse numbers) in
     let presents : SequenceNumbers (presented (tokens_of numbers)) = rw same (reversed_numbers numbers fits) in

@@ -45,8 +45,8 @@ module _ (key : List ℕ) (strength : Strength) (t : List ℕ) where
       → sum ++ out ≡ encrypt key strength t (parts confounder message)
   unfolding encrypt message_checksum plain
   sealed confounder message g e =
-      let sum_is_lem = e ∙ ap (λ (k : List ℕ). hmac k (confounder ++ message)) g.k2_is in
-      ap₂ (λ (x y : List ℕ). x ++ y) sum_is_lem (under_k3 g ∙ ap (λ (s : List ℕ). rc4 (k3 key strength t s) (confounder ++ message)) sum_is_lem)
+      let sum_is = e ∙ ap (λ (k : List ℕ). hmac k (confounder ++ message)) g.k2_is in
+      ap₂ (λ (x y : List ℕ). x ++ y) sum_is (under_k3 g ∙ ap (λ (s : List ℕ). rc4 (k3 key strength t s) (confounder ++ message)) sum_is)
 
   module _ {sum text one two three out expected : List ℕ} (g : Run sum text one two three out) (sixteen : length sum ≡ 16) (expected-is : expected ≡ hmac two out) where
     out_is : out ≡ decrypted key strength t (sum ++ text)

@@ -3,7 +3,7 @@ use Rattle.std.proofs.Common.{◌<◌, ◌≤◌, length, ap, ◌∙◌, arith, 
 use borrow.Author.Tests.{lt-leb}
 use Rattle.primitives.specs.Hash as Hash
 use Rattle.primitives.specs.Hmac.{filled, key_block}
-use Rattle.primitives.specs.declared.hash.Algorithm.TheVariants.{Md5 as is-md5}
+use Rattle.primitives.specs.declared.hash.Algorithm.TheVariants.{Md5 as is_md5}
 use Rattle.primitives.specs.declared.hash.Hash.{Hash as State}
 use Rattle.primitives.proofs.Parts.{finished_digest}
 use Rattle.primitives.proofs.hmac.key_block.Goals as goal
@@ -21,5 +21,5 @@ returns c =
     let long : 64 < length key = omega arith in
     let hashed = c.finish-digest.ensures
     ∙ ap Hash.finished (c.update.ensures ∙ ap (λ (h : State). Hash.absorb h key) c.new.ensures)
-    ∙ finished_digest is-md5 key in
+    ∙ finished_digest is_md5 key in
     rw (lt-leb _ _ long) (c.filled-2.ensures ∙ ap filled hashed)

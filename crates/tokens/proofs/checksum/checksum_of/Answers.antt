@@ -4,7 +4,7 @@ use mathlib.Core.List.{◌++◌}
 use Rattle.primitives.specs.Hash.{absorb, begun, finished, md5}
 use Rattle.primitives.specs.Hmac.{hmac}
 use Rattle.primitives.specs.declared.hash.Hash.{Hash}
-use Rattle.primitives.specs.declared.hash.Algorithm.TheVariants.{Md5 as is-md5}
+use Rattle.primitives.specs.declared.hash.Algorithm.TheVariants.{Md5 as is_md5}
 use Rattle.primitives.proofs.Laws.{hash_append, hash_digest}
 use Rattle.tokens.specs.Checksum.{checksum}
 use Rattle.tokens.proofs.checksum.checksum_of.Goals as goal
@@ -20,6 +20,6 @@ returns c =
     ∙ ap finished
     (c.update-2.ensures
     ∙ ap (λ (h : Hash). absorb h octets) (c.update.ensures ∙ ap (λ (h : Hash). absorb h t) c.new.ensures)
-    ∙ sym (hash_append (begun is-md5) t octets))
-    ∙ hash_digest is-md5 (t ++ octets) in
+    ∙ sym (hash_append (begun is_md5) t octets))
+    ∙ hash_digest is_md5 (t ++ octets) in
     c.of.ensures ∙ ap₂ hmac c.signature_key.ensures digest

@@ -5,7 +5,7 @@ use lib.ListN.{length, take}
 use lib.Seq.{length-take-le, take_at}
 use Rattle.primitives.specs.Hash.{absorb, begun, finished}
 use Rattle.primitives.specs.declared.hash.Hash.{Hash}
-use Rattle.primitives.specs.declared.hash.Algorithm.TheVariants.{Md4 as is-md4}
+use Rattle.primitives.specs.declared.hash.Algorithm.TheVariants.{Md4 as is_md4}
 use Rattle.primitives.proofs.Laws.{hash_digest}
 use Rattle.tokens.specs.Key as Spec
 use Rattle.tokens.proofs.Steps.{goes_on, stops, digest_refused, digest_done, test_held, within_bounds}
@@ -53,6 +53,6 @@ returns c =
     = ap (take (2 * length units)) octets.ensures ∙ take_at (Spec.unicode units) _ (2 * length units) (unicode_length units) in
     digest_done c.in-Done.is
     (c.finish.ensures
-    ∙ ap finished (c.update.ensures ∙ ap (λ (h : Hash). absorb h (take (2 * length units) octets.result)) c.new.ensures ∙ ap (absorb (begun is-md4)) front)
-    ∙ hash_digest is-md4 (Spec.unicode units))
+    ∙ ap finished (c.update.ensures ∙ ap (λ (h : Hash). absorb h (take (2 * length units) octets.result)) c.new.ensures ∙ ap (absorb (begun is_md4)) front)
+    ∙ hash_digest is_md4 (Spec.unicode units))
     (goes_on _ _ _ c.length-status.ensures c.in-Done.is)

@@ -1,5 +1,5 @@
 #!/usr/bin/env python3
-"""Respells this repository's own definitions and lemmas after /opt/rattle/port/port.py, once: snake case for each definition, lemma, field
+"""Respells this repository's own definitions and lemmas after the kit's port.py, once: snake case for each definition, lemma, field
 and constructor that specs/ and proofs/ declare, in the .antt files, in the clauses of the .rt files and in the must-fail edits.
 
 usage: python3 tools/respell.py            at the top of the repository

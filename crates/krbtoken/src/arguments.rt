@@ -51,8 +51,7 @@ const WORD: usize = 4096;
 // The system's number for a path that is too long.
 const NAME_TOO_LONG: i32 = 36;
 
-// Puts the word at `at` at the front of a buffer, and answers how many octets that are: none if there is no such word. Of a word that
-// is longer than the buffer they are the first.
+// Copies the word at `at` into a buffer and returns its length, 0 if there is no such word. A word that is longer than the buffer is cut off.
 fn read_word(rt: HostRuntime, at: usize, buf: &mut [u8]) -> usize
     ensures { result ≤ length buf.new }
 {

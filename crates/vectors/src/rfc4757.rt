@@ -22,8 +22,8 @@ fn write_type(rt: &impl Print, name: &[u8], number: u32) {
     text::end_line(rt);
 }
 
-pub fn run(rt: &impl Print) {
-    write_key(rt, b"RFC 4757 2 foo: ", &[0x66u16, 0x6f, 0x6f]);
+// The usages of the exchanges with the key distribution center.
+fn write_kdc_types(rt: &impl Print) {
     write_type(
         rt,
         b"AS-REQ PA-ENC-TIMESTAMP",
@@ -61,6 +61,10 @@ pub fn run(rt: &impl Print) {
         b"TGS-REP encrypted part, subkey",
         Usage::TGS_REP_ENCRYPTED_PART_SUBKEY,
     );
+}
+
+// The usages of the exchanges between client and server.
+fn write_application_types(rt: &impl Print) {
     write_type(
         rt,
         b"AP-REQ Authenticator cksum",
@@ -79,4 +83,10 @@ pub fn run(rt: &impl Print) {
         Usage::KRB_CRED_ENCRYPTED_PART,
     );
     write_type(rt, b"KRB-SAFE cksum", Usage::KRB_SAFE_CKSUM);
+}
+
+pub fn run(rt: &impl Print) {
+    write_key(rt, b"RFC 4757 2 foo: ", &[0x66u16, 0x6f, 0x6f]);
+    write_kdc_types(rt);
+    write_application_types(rt);
 }

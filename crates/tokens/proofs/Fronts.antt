@@ -6,17 +6,20 @@ use mathlib.Core.List.{List, [], ◌∷◌, ◌++◌, append_assoc}
 use Prim.Native.Nat.{ℕ, ◌+◌, ◌*◌, ◌/◌, ◌%◌, ◌≤◌, ◌<◌}
 use native.Mathlib.Omega.{arith}
 use lib.ListN.{length, take, drop, length-append, length-take, length-drop, take-append-drop}
-use lib.Seq.{take_at, drop_at, take-append-le, drop-append-le, drop-drop, length-take-le}
+use lib.Seq.{take_all, take_at, drop_at, take-append-le, drop-append-le, drop-drop, length-take-le}
+use Rattle.std.specs.Prelude.{⊤, Result, Ok}
 use Rattle.primitives.specs.Hash.{md5}
 use Rattle.primitives.specs.Hmac.{hmac}
 use Rattle.primitives.specs.Octets.{Octets, little_endian}
 use Rattle.primitives.specs.Rc4.{rc4, key_schedule}
 use Rattle.primitives.proofs.Laws.{apply_length, apply_octets, apply_twice, hmac_length, schedule_octets}
-use Rattle.tokens.specs.Answer.{done, require}
+use Rattle.tokens.specs.Answer.{Outcome, require, tested}
 use Rattle.tokens.specs.Checksum.{signature_key, checksum}
 use Rattle.tokens.specs.Limits.{region}
 use Rattle.tokens.specs.Octets.{same}
 use Rattle.tokens.specs.Token.{sequence_numbers, sequence_octets, direction, sequence_field, token_checksum, sequence_key, front, header_in, checksum_in, field_in, number_of, number_in}
+use Rattle.tokens.specs.declared.answer.Refusal.{Refusal}
+use Rattle.tokens.specs.declared.answer.Refusal.TheVariants as refusal
 use Rattle.tokens.specs.declared.context.Context.{Context}
 use Rattle.tokens.specs.declared.context.Sender.{Sender}
 use Rattle.tokens.specs.declared.context.Sender.TheVariants.{Initiator, Acceptor}
@@ -140,7 +143,7 @@ module _ (context : Context) (header sum : List ℕ) (n : ℕ) (header-eight : l
   unfolding field_in
   decrypted_field = rw (front_checksum, front_field) (apply_twice (key_schedule (sequence_key context sum)) (sequence_field context.sender n))
 
-  pub front_number : n < sequence_numbers → number_in context (front context header sum n ++ rest) ≡ done n
+  pub front_number : n < sequence_numbers → number_in context (front context header sum n ++ rest) ≡ Ok n
   unfolding number_in require sequence_field
   front_number h =
       rw (
@@ -150,13 +153,27 @@ module _ (context : Context) (header sum : List ℕ) (n : ℕ) (header-eight : l
         number_back n (direction context.sender) h,
       )
 
+-- ---- The direction octets compared, from what the steps give
+
+module _ (context : Context) (front : List ℕ) {encrypted key field : List ℕ} (encrypted-is : encrypted ≡ region 8 8 front) (key-is : key ≡ sequence_key context (checksum_in front))
+    (run : field ≡ rc4 key encrypted) where
+  pub field_run : field ≡ field_in context front
+  unfolding field_in
+  field_run = run ∙ ap₂ (λ (k l : List ℕ). rc4 k l) key-is encrypted-is
+
+  pub compared : (expected : List ℕ) {s : Result ⊤ Refusal} → length field ≡ 8 → expected ≡ direction context.sender → s ≡ tested (same (take 4 (drop 4 field)) expected) refusal.Direction
+      → s ≡ tested (same (drop 4 (field_in context front)) (direction context.sender)) refusal.Direction
+  compared expected eight ee es =
+      let all : take 4 (drop 4 field) ≡ drop 4 field = take_all 4 (drop 4 field) (rw length-drop (omega arith)) in
+      es ∙ ap₂ (λ (f d : List ℕ). tested (same f d) refusal.Direction) (all ∙ ap (drop 4) field_run) ee
+
 -- ---- What is read is what the rule writes
 
-module _ (context : Context) (octets : List ℕ) (bytes : Octets octets) (least : 24 ≤ length octets) {n : ℕ} (e : number_in context octets ≡ done n) where
+module _ (context : Context) (octets : List ℕ) (bytes : Octets octets) (least : 24 ≤ length octets) {n : ℕ} (e : number_in context octets ≡ Ok n) where
   abbrev field : List ℕ
   field = field_in context octets
 
-  tests : (same (drop 4 field) (direction context.sender) ≡ true) × (done (number_of field) ≡ done n)
+  tests : (same (drop 4 field) (direction context.sender) ≡ true) × ◌≡◌ {A = Outcome ℕ} (Ok (number_of field)) (Ok n)
   unfolding number_in
   tests = require_done _ _ _ n e
 

@@ -7,8 +7,9 @@ use native.Mathlib.Omega.{arith}
 use lib.ListN.{length, take, drop, length-append, length-take, length-drop}
 use lib.Seq.{take_at, drop_at, take-append-le, take-take, drop-drop, length-take-le}
 use borrow.Author.Tests.{leb-true, le-leb}
+use Rattle.std.specs.Prelude.{Ok}
 use Rattle.primitives.specs.Octets.{Octets}
-use Rattle.tokens.specs.Answer.{done, require, number}
+use Rattle.tokens.specs.Answer.{require, number}
 use Rattle.tokens.specs.Limits.{most_message, region, placed}
 use Rattle.tokens.specs.Message as Message
 use Rattle.tokens.specs.Mic as Mic
@@ -102,7 +103,7 @@ mic_one = MicExactly.only_one
 -- ---- What a writer made, and what it makes where nothing is refused
 
 module _ {octets : List ℕ} where
-  pub message_made : (key : List ℕ) (strength : Strength) (usage : ℕ) (confounder buf : List ℕ) (start n : ℕ) → Message.encryption key strength usage confounder buf start n ≡ done octets
+  pub message_made : (key : List ℕ) (strength : Strength) (usage : ℕ) (confounder buf : List ℕ) (start n : ℕ) → Message.encryption key strength usage confounder buf start n ≡ Ok octets
       → (n ≤ most_message) × (start + (Message.overhead + n) ≤ length buf) × (least_usage ≤ usage) × (usage ≤ most_usage)
       × (octets ≡ Message.encrypt key strength (type_octets usage) (Message.parts confounder (region (start + Message.overhead) n buf)))
   unfolding Message.encryption
@@ -113,7 +114,7 @@ module _ {octets : List ℕ} where
       let usages = within_bounds least_usage most_usage usage named.0 in
       ((within_bounds 0 most_message n sized.0).1, leb-true _ _ fits.0, usages.0, usages.1, sym (done_same named.1))
 
-  pub mic_made : (context : Context) (n : ℕ) (text buf : List ℕ) (start : ℕ) → Mic.mic_writing context n text buf start ≡ done octets
+  pub mic_made : (context : Context) (n : ℕ) (text buf : List ℕ) (start : ℕ) → Mic.mic_writing context n text buf start ≡ Ok octets
       → (length text ≤ most_message) × (start + Mic.mic_length ≤ length buf) × (octets ≡ Mic.mic_token context n text)
   unfolding Mic.mic_writing
   mic_made context n text buf start e =
@@ -121,7 +122,7 @@ module _ {octets : List ℕ} where
       let fits = require_done _ _ _ octets sized.1 in
       ((within_bounds 0 most_message (length text) sized.0).1, leb-true _ _ fits.0, sym (done_same fits.1))
 
-  pub wrap_made : (context : Context) (sequence : ℕ) (confounder : List ℕ) (sealed : Bool) (buf : List ℕ) (start n : ℕ) → Wrap.wrap_writing context sequence confounder sealed buf start n ≡ done octets
+  pub wrap_made : (context : Context) (sequence : ℕ) (confounder : List ℕ) (sealed : Bool) (buf : List ℕ) (start n : ℕ) → Wrap.wrap_writing context sequence confounder sealed buf start n ≡ Ok octets
       → (n ≤ most_message) × (start + Wrap.wrap_length n ≤ length buf) × (octets ≡ Wrap.wrap_token context (Wrap.parts sequence sealed confounder (region (start + Wrap.message_at) n buf)))
   unfolding Wrap.wrap_writing
   wrap_made context sequence confounder sealed buf start n e =
@@ -130,11 +131,11 @@ module _ {octets : List ℕ} where
       ((within_bounds 0 most_message n sized.0).1, leb-true _ _ fits.0, sym (done_same fits.1))
 
 pub mic_makes : (context : Context) (n : ℕ) (text buf : List ℕ) (start : ℕ) → length text ≤ most_message → start + Mic.mic_length ≤ length buf
-    → Mic.mic_writing context n text buf start ≡ done (Mic.mic_token context n text)
+    → Mic.mic_writing context n text buf start ≡ Ok (Mic.mic_token context n text)
 unfolding Mic.mic_writing require
 mic_makes context n text buf start most inside = rw (le-leb 0 (length text) (omega arith), le-leb (length text) most_message most, le-leb (start + Mic.mic_length) (length buf) inside)
 
 pub wrap_makes : (context : Context) (sequence : ℕ) (confounder : List ℕ) (sealed : Bool) (buf : List ℕ) (start n : ℕ) → n ≤ most_message → start + Wrap.wrap_length n ≤ length buf
-    → Wrap.wrap_writing context sequence confounder sealed buf start n ≡ done (Wrap.wrap_token context (Wrap.parts sequence sealed confounder (region (start + Wrap.message_at) n buf)))
+    → Wrap.wrap_writing context sequence confounder sealed buf start n ≡ Ok (Wrap.wrap_token context (Wrap.parts sequence sealed confounder (region (start + Wrap.message_at) n buf)))
 unfolding Wrap.wrap_writing require
 wrap_makes context sequence confounder sealed buf start n most inside = rw (le-leb 0 n (omega arith), le-leb n most_message most, le-leb (start + Wrap.wrap_length n) (length buf) inside)

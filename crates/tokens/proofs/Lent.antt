@@ -5,8 +5,9 @@ use Prim.Native.Nat.{ℕ, zero, suc, ◌+◌, ◌-◌, ◌≤◌}
 use native.Mathlib.Omega.{arith}
 use lib.ListN.{length, take, drop, length-append, length-take, length-drop, take-append-drop, drop_of_length-le}
 use lib.Seq.{take_at, take-add, drop_at, take-append-le, drop-append-add, drop-drop, get_or-drop, length-take-le, take-take}
+use Rattle.std.specs.Prelude.{Ok, Err}
 use Rattle.primitives.specs.Octets.{Octets}
-use Rattle.tokens.specs.Answer.{Outcome, done, refused}
+use Rattle.tokens.specs.Answer.{Outcome}
 use Rattle.tokens.specs.Limits.{region, placed, buffer_after}
 use Rattle.tokens.proofs.Placing.{placed_all, placed_under, placed_within, unchanged_within, rest_of}
 
@@ -53,8 +54,8 @@ module _ (k : ℕ) (octets body : List ℕ) (long : k + 8 ≤ length octets) whe
 
 -- what is placed behind k octets, in all of them
 behind_front : {A : Type 0} (place : A → List ℕ) (k : ℕ) (octets : List ℕ) (o : Outcome A) → take k octets ++ buffer_after place 0 (drop k octets) o ≡ buffer_after place k octets o
-behind_front place k octets (done a) = placed_under k (place a) octets
-behind_front place k octets (refused r) = take-append-drop k octets
+behind_front place k octets (Ok a) = placed_under k (place a) octets
+behind_front place k octets (Err r) = take-append-drop k octets
 
 -- the fields of a region are all of it
 module _ (k : ℕ) (octets : List ℕ) {front confounder : List ℕ} (front-is : front ≡ take k octets) (confounder-is : confounder ≡ region k 8 octets) where
@@ -91,14 +92,14 @@ module _ (buf : List ℕ) (start n k : ℕ) {after : List ℕ} (inside : start +
       ∙ placed_within start n 0 octets buf inside (omega arith)
       ∙ ap (λ (s : ℕ). placed s octets buf) at
 
-  pub read_region : {A : Type 0} (place : A → List ℕ) (at : ℕ) (o : Outcome A) → ((a : A) → o ≡ done a → at + length (place a) ≤ n)
+  pub read_region : {A : Type 0} (place : A → List ℕ) (at : ℕ) (o : Outcome A) → ((a : A) → o ≡ Ok a → at + length (place a) ≤ n)
       → after ≡ buffer_after place at (region start n buf) o → take start buf ++ (after ++ drop k (drop start buf)) ≡ buffer_after place (start + at) buf o
   read_region place at o fits e = rw (e, whole) (within place o fits)
     where
-      within : {A : Type 0} (place : A → List ℕ) (o : Outcome A) → ((a : A) → o ≡ done a → at + length (place a) ≤ n)
+      within : {A : Type 0} (place : A → List ℕ) (o : Outcome A) → ((a : A) → o ≡ Ok a → at + length (place a) ≤ n)
           → take start buf ++ (buffer_after place at (region start n buf) o ++ drop n (drop start buf)) ≡ buffer_after place (start + at) buf o
-      within place (done a) fits = placed_within start n at (place a) buf inside (fits a refl)
-      within place (refused r) fits = unchanged_within start n buf
+      within place (Ok a) fits = placed_within start n at (place a) buf inside (fits a refl)
+      within place (Err r) fits = unchanged_within start n buf
 
 -- the n octets that stand h after the start of a region
 pub behind : (buf : List ℕ) (start h n : ℕ) → start + (h + n) ≤ length buf → drop h (region start (h + n) buf) ≡ region (start + h) n buf

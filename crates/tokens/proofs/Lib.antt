@@ -5,7 +5,6 @@ pub mod SameOctets
 pub mod Steps
 mod Placing
 mod Lent
-mod Salts
 mod SignedText
 mod Sessions
 mod Fronts

@@ -1,16 +1,17 @@
 -- Octets placed in a buffer.
 use mathlib.Core.Path.{◌≡◌, refl, sym, ap, ◌∙◌}
-use mathlib.Core.List.{List, [], ◌++◌, append_assoc, append-nil}
+use mathlib.Core.List.{List, [], ◌∷◌, ◌++◌, append_assoc, append-nil}
 use Prim.Native.Nat.{ℕ, ◌+◌, ◌-◌, ◌≤◌}
 use native.Mathlib.Omega.{arith}
-use lib.ListN.{length, take, drop, length-append, length-take, length-drop, take-append-drop, drop_of_length-le}
-use lib.Seq.{paste, take_at, drop-append-add, take-add, take_all, take-length, take-take, drop-append-le, drop-drop}
+use lib.ListN.{length, get_or, take, drop, length-append, length-take, length-drop, take-append-drop, drop_of_length-le}
+use lib.Seq.{take_at, drop-append-add, take-add, take_all, take-take, drop-append-le, drop-drop}
+use borrow.Rule.Slice.PartMut.{put_mid}
 use Rattle.tokens.specs.Limits.{region, placed}
 
--- all of the octets have been copied
-pub pasted : (buf : List ℕ) (at : ℕ) (part : List ℕ) (i : ℕ) → i ≡ length part → paste buf at part i ≡ placed at part buf
+-- k octets from `at` on, overwritten by as many
+pub put_placed : (at k : ℕ) (buf part new : List ℕ) → new ≡ part → k ≡ length part → put_mid at k buf new ≡ placed at part buf
 unfolding placed
-pasted buf at part i e = rw (e, take-length part) (append_assoc (take at buf) part (drop (at + length part) buf))
+put_placed at k buf part new e size = rw (e, size, drop-drop (length part) at buf)
 
 -- a buffer that they fill
 pub placed_all : (buf part : List ℕ) → length buf ≡ length part → placed 0 part buf ≡ part
@@ -18,6 +19,15 @@ unfolding placed
 placed_all buf part e =
     let past : length buf ≤ 0 + length part = omega arith in
     rw (drop_of_length-le buf past, append-nil)
+
+-- the four octets of a list of four
+pub four_of : (t : List ℕ) → length t ≡ 4 → get_or t 0 0 ∷ get_or t 1 0 ∷ get_or t 2 0 ∷ get_or t 3 0 ∷ [] ≡ t
+four_of [] e = absurd (omega arith)
+four_of (a ∷ []) e = absurd (omega arith)
+four_of (a ∷ b ∷ []) e = absurd (omega arith)
+four_of (a ∷ b ∷ c ∷ []) e = absurd (omega arith)
+four_of (a ∷ b ∷ c ∷ d ∷ []) e = refl
+four_of (a ∷ b ∷ c ∷ d ∷ x ∷ t) e = absurd (omega arith)
 
 -- parts placed one after the other, in an array that they fill
 next_placed : (a b z : List ℕ) (n : ℕ) → length a ≡ n → placed n b (a ++ z) ≡ (a ++ b) ++ drop (length b) z

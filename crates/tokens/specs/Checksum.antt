@@ -1,8 +1,8 @@
 -- The keyed checksum: RFC 4757, section 4.
-use Rattle.std.specs.Prelude.{ℕ, List, [], ◌∷◌, ◌++◌, length}
+use Rattle.std.specs.Prelude.{ℕ, List, [], ◌∷◌, ◌++◌, length, Ok}
 use Rattle.primitives.specs.Hash.{md5}
 use Rattle.primitives.specs.Hmac.{hmac}
-use Rattle.tokens.specs.Answer.{Outcome, done, require}
+use Rattle.tokens.specs.Answer.{Outcome, require}
 use Rattle.tokens.specs.Limits.{most_message, within}
 use Rattle.tokens.specs.Octets.{same}
 use Rattle.tokens.specs.Usage.{is_usage, type_octets}
@@ -25,7 +25,7 @@ unfoldable pub keyed_checksum : List ℕ → ℕ → List ℕ → Outcome (List 
 keyed_checksum key usage text =
     require (within 0 most_message (length text)) Length
     (require (is_usage usage) Usage
-    (done (checksum key (type_octets usage) text)))
+    (Ok (checksum key (type_octets usage) text)))
 
 -- what `checksum_test` answers of a checksum that is handed in, which has sixteen octets
 unfoldable pub checksum_test : List ℕ → ℕ → List ℕ → List ℕ → Outcome (List ℕ)
@@ -34,4 +34,4 @@ checksum_test key usage text given =
     (require (within 16 16 (length given)) Length
     (require (is_usage usage) Usage
     (require (same given (checksum key (type_octets usage) text)) Checksum
-    (done given))))
+    (Ok given))))

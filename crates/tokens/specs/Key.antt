@@ -1,8 +1,8 @@
 -- The key of a password: RFC 4757, section 2.
-use Rattle.std.specs.Prelude.{ℕ, List, [], ◌∷◌, ◌++◌, length}
+use Rattle.std.specs.Prelude.{ℕ, List, [], ◌∷◌, ◌++◌, length, Ok}
 use Rattle.primitives.specs.Octets.{little_endian}
 use Rattle.primitives.specs.Hash.{md4}
-use Rattle.tokens.specs.Answer.{Outcome, done, require}
+use Rattle.tokens.specs.Answer.{Outcome, require}
 use Rattle.tokens.specs.Limits.{most_units, within}
 use Rattle.tokens.specs.declared.answer.Refusal.TheVariants.{Length}
 
@@ -17,4 +17,4 @@ string_to_key units = md4 (unicode units)
 
 -- what `password_key` answers
 unfoldable pub password_key : List ℕ → Outcome (List ℕ)
-password_key units = require (within 0 most_units (length units)) Length (done (string_to_key units))
+password_key units = require (within 0 most_units (length units)) Length (Ok (string_to_key units))

@@ -1,6 +1,6 @@
 -- The lengths that the calls take, regions of a lent buffer, and what a call leaves of the buffer.
-use Rattle.std.specs.Prelude.{ℕ, ◌+◌, Bool, ◌&&◌, List, ◌++◌, leb, length, take, drop}
-use Rattle.tokens.specs.Answer.{Outcome, done, refused}
+use Rattle.std.specs.Prelude.{ℕ, ◌+◌, Bool, ◌&&◌, List, ◌++◌, leb, length, take, drop, Ok, Err}
+use Rattle.tokens.specs.Answer.{Outcome}
 
 -- the most 16-bit units of a password
 abbrev pub most_units : ℕ
@@ -28,5 +28,5 @@ placed start octets buf = take start buf ++ (octets ++ drop (start + length octe
 
 -- the buffer after a call that places some octets of its result, and none with a refusal
 abbrev pub buffer_after : {A : Type 0} → (A → List ℕ) → ℕ → List ℕ → Outcome A → List ℕ
-buffer_after octets start buf (done a) = placed start (octets a) buf
-buffer_after octets start buf (refused r) = buf
+buffer_after octets start buf (Ok a) = placed start (octets a) buf
+buffer_after octets start buf (Err r) = buf

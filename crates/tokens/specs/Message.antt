@@ -1,10 +1,10 @@
 -- The encrypted message: RFC 4757, section 5. The rule that writes one, what reading one gives, and that reading succeeds exactly
 -- on what the rule writes.
-use Rattle.std.specs.Prelude.{ℕ, ◌+◌, ◌≤◌, ◌≡◌, List, ◌++◌, length, take, drop}
+use Rattle.std.specs.Prelude.{ℕ, ◌+◌, ◌≤◌, ◌≡◌, List, ◌++◌, length, take, drop, Ok}
 use Rattle.primitives.specs.Octets.{Octets}
 use Rattle.primitives.specs.Hmac.{hmac}
 use Rattle.primitives.specs.Rc4.{rc4}
-use Rattle.tokens.specs.Answer.{Outcome, done, require}
+use Rattle.tokens.specs.Answer.{Outcome, require}
 use Rattle.tokens.specs.Limits.{most_message, within, inside, region}
 use Rattle.tokens.specs.Octets.{same}
 use Rattle.tokens.specs.Strength.{salt, export_fill}
@@ -68,7 +68,7 @@ encryption key strength usage confounder buf start n =
     require (within 0 most_message n) Length
     (require (inside start (overhead + n) buf) Region
     (require (is_usage usage) Usage
-    (done (encrypt key strength (type_octets usage) (parts confounder (region (start + overhead) n buf))))))
+    (Ok (encrypt key strength (type_octets usage) (parts confounder (region (start + overhead) n buf))))))
 
 -- DECRYPT: confounder and message of an encrypted message, by the K3 of the checksum that it has
 unfoldable pub decrypted : List ℕ → Strength → List ℕ → List ℕ → List ℕ
@@ -82,7 +82,7 @@ apart text = parts (take 8 text) (drop 8 text)
 unfoldable pub opened : List ℕ → Strength → List ℕ → List ℕ → Outcome Parts
 opened key strength t octets =
     let text : List ℕ = decrypted key strength t octets in
-    require (same (take 16 octets) (message_checksum key strength t text)) Checksum (done (apart text))
+    require (same (take 16 octets) (message_checksum key strength t text)) Checksum (Ok (apart text))
 
 -- what `decrypt` finds in a region
 unfoldable pub decryption : List ℕ → Strength → ℕ → List ℕ → ℕ → ℕ → Outcome Parts

@@ -1,7 +1,7 @@
 -- The MIC token: RFC 4757, section 7.2. The rule that writes one, what reading one gives, and that reading succeeds exactly on
 -- what the rule writes.
-use Rattle.std.specs.Prelude.{ℕ, ◌+◌, ◌<◌, ◌≤◌, ◌≡◌, List, [], ◌∷◌, length}
-use Rattle.tokens.specs.Answer.{Outcome, done, require, and_then}
+use Rattle.std.specs.Prelude.{ℕ, ◌+◌, ◌<◌, ◌≤◌, ◌≡◌, List, [], ◌∷◌, length, Ok}
+use Rattle.tokens.specs.Answer.{Outcome, require, and_then}
 use Rattle.tokens.specs.Limits.{most_message, within, inside, region}
 use Rattle.tokens.specs.Octets.{same}
 use Rattle.tokens.specs.Token.{sequence_numbers, token_checksum, front, header_in, checksum_in, number_in}
@@ -36,7 +36,7 @@ unfoldable pub mic_writing : Context → ℕ → List ℕ → List ℕ → ℕ �
 mic_writing context n text buf start =
     require (within 0 most_message (length text)) Length
     (require (inside start mic_length buf) Region
-    (done (mic_token context n text)))
+    (Ok (mic_token context n text)))
 
 -- the sequence number of a MIC token over a text
 unfoldable pub mic_number : Context → List ℕ → List ℕ → Outcome ℕ
@@ -44,7 +44,7 @@ mic_number context text octets =
     require (same (header_in octets) header) Header
     (and_then (number_in context octets) (λ (n : ℕ).
     require (same (checksum_in octets) (mic_checksum context text)) Checksum
-    (done n)))
+    (Ok n)))
 
 -- what `mic_read` finds in a region
 unfoldable pub mic_reading : Context → List ℕ → List ℕ → ℕ → ℕ → Outcome ℕ

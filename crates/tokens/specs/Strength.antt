@@ -1,7 +1,6 @@
 -- What the strength of a key changes: the salt, and a key's octets that export strength sets. RFC 4757, section 5.
-use Rattle.std.specs.Prelude.{ℕ, ◌-◌, List, [], ◌∷◌, ◌++◌, length, replicate}
+use Rattle.std.specs.Prelude.{ℕ, List, [], ◌∷◌, ◌++◌, replicate}
 use Rattle.tokens.specs.Limits.{placed}
-use Rattle.tokens.specs.declared.strength.Salt.{Salt}
 use Rattle.tokens.specs.declared.strength.Strength.{Strength}
 use Rattle.tokens.specs.declared.strength.Strength.TheVariants.{Full, Export}
 
@@ -13,10 +12,6 @@ fortybits = 0x66 ∷ 0x6f ∷ 0x72 ∷ 0x74 ∷ 0x79 ∷ 0x62 ∷ 0x69 ∷ 0x74 
 unfoldable pub salt : Strength → List ℕ → List ℕ
 salt Full t = t
 salt Export t = fortybits ++ t
-
--- the salt in fourteen octets, with its length
-unfoldable pub salt_answer : Strength → List ℕ → Salt
-salt_answer strength t = record { octets = salt strength t ++ replicate (14 - length (salt strength t)) 0; length = length (salt strength t) }
 
 -- memset(key + 7, 0xAB, 9), for export alone: of an encrypted message's K1, and of a token's Kseq and Kcrypt
 unfoldable pub export_fill : Strength → List ℕ → List ℕ

@@ -1,11 +1,11 @@
 -- What MIC and Wrap tokens have in common, RFC 4757, sections 7.2 and 7.3: the sequence number field SND_SEQ, the checksum
 -- SGN_CKSUM, the keys Kseq and Kcrypt, and the first 24 octets.
-use Rattle.std.specs.Prelude.{ℕ, ◌+◌, ◌*◌, ◌/◌, ◌%◌, List, [], ◌∷◌, ◌++◌, map, get_or, take, drop, replicate}
+use Rattle.std.specs.Prelude.{ℕ, ◌+◌, ◌*◌, ◌/◌, ◌%◌, List, [], ◌∷◌, ◌++◌, map, get_or, take, drop, replicate, Ok}
 use Rattle.std.specs.Int.Bits.{bit_xor}
 use Rattle.primitives.specs.Octets.{little_endian}
 use Rattle.primitives.specs.Hmac.{hmac}
 use Rattle.primitives.specs.Rc4.{rc4}
-use Rattle.tokens.specs.Answer.{Outcome, done, require}
+use Rattle.tokens.specs.Answer.{Outcome, require}
 use Rattle.tokens.specs.Checksum.{checksum}
 use Rattle.tokens.specs.Limits.{region}
 use Rattle.tokens.specs.Octets.{same}
@@ -86,4 +86,4 @@ number_of field = ((get_or field 0 0 * 256 + get_or field 1 0) * 256 + get_or fi
 unfoldable pub number_in : Context → List ℕ → Outcome ℕ
 number_in context octets =
     let field : List ℕ = field_in context octets in
-    require (same (drop 4 field) (direction context.sender)) Refusal.Direction (done (number_of field))
+    require (same (drop 4 field) (direction context.sender)) Refusal.Direction (Ok (number_of field))

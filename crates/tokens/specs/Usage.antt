@@ -1,10 +1,11 @@
 -- The fifteen usages and their message types: RFC 4757, section 3.
-use Rattle.std.specs.Prelude.{ℕ, ◌-◌, Bool, cond, List, [], ◌∷◌, get_or, replicate}
+use Rattle.std.specs.Prelude.{ℕ, ◌-◌, Bool, List, [], ◌∷◌, get_or, Result, Ok}
+use Rattle.tokens.specs.Answer.{require}
 use Rattle.primitives.specs.Octets.{little_endian}
 use Rattle.tokens.specs.Limits.{within}
-use Rattle.tokens.specs.declared.answer.Refusal.TheVariants as Refusal
-use Rattle.tokens.specs.declared.answer.Status.TheVariants.{Done, Refused}
-use Rattle.tokens.specs.declared.usage.Named.{Named}
+use Rattle.tokens.specs.declared.answer.Refusal.TheVariants as refusal
+use Rattle.tokens.specs.declared.answer.Refusal.{Refusal}
+use Rattle.tokens.specs.declared.usage.Usage.{Usage}
 
 -- usages are counted from 1
 abbrev pub least_usage : ℕ
@@ -27,9 +28,6 @@ message_type usage = get_or message_types (usage - least_usage) 0
 unfoldable pub type_octets : ℕ → List ℕ
 type_octets usage = little_endian 4 (message_type usage)
 
--- what `Usage::new` answers: T, or four zeros with a refusal
-abbrev pub not_named : Named
-not_named = record { status = Refused Refusal.Usage; usage = record { t = replicate 4 0 } }
-
-unfoldable pub named : ℕ → Named
-named number = cond (is_usage number) (record { status = Done; usage = record { t = type_octets number } }) not_named
+-- the usage of a number, if it is one of the fifteen
+unfoldable pub named : ℕ → Result Usage Refusal
+named number = require (is_usage number) refusal.Usage (Ok (record { t = type_octets number }))

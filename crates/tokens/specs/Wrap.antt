@@ -1,20 +1,15 @@
 -- The Wrap token: RFC 4757, section 7.3. The rule that writes one, what opening one gives, and that opening succeeds exactly on
 -- what the rule writes.
-use Rattle.std.specs.Prelude.{ℕ, ◌+◌, ◌-◌, ◌<◌, ◌≤◌, ◌≡◌, Bool, true, false, cond, List, [], ◌∷◌, ◌++◌, eqb, length, get_or, take, drop}
+use Rattle.std.specs.Prelude.{ℕ, ◌+◌, ◌-◌, ◌<◌, ◌≤◌, ◌≡◌, Bool, true, false, cond, List, [], ◌∷◌, ◌++◌, eqb, length, get_or, take, drop, Ok}
 use Rattle.primitives.specs.Octets.{Octets}
 use Rattle.primitives.specs.Rc4.{rc4}
-use Rattle.tokens.specs.Answer.{Outcome, done, refused, require, and_then}
+use Rattle.tokens.specs.Answer.{Outcome, map_ok, require, and_then}
 use Rattle.tokens.specs.Limits.{most_message, within, inside, region}
 use Rattle.tokens.specs.Octets.{same}
 use Rattle.tokens.specs.Token.{sequence_numbers, token_checksum, sealing_key, front, header_in, checksum_in, number_in}
-use Rattle.tokens.specs.declared.answer.Refusal.TheVariants as Refusal
-use Rattle.tokens.specs.declared.answer.Status.{Status}
-use Rattle.tokens.specs.declared.answer.Status.TheVariants as status
+use Rattle.tokens.specs.declared.answer.Refusal.TheVariants as refusal
 use Rattle.tokens.specs.declared.answer.Unwrapped.{Unwrapped}
-use Rattle.tokens.specs.declared.answer.Unwrapped.TheVariants as unwrapped
 use Rattle.tokens.specs.declared.context.Context.{Context}
-use Rattle.tokens.specs.declared.wrap.Sealing.{Sealing}
-use Rattle.tokens.specs.declared.wrap.Sealing.TheVariants as sealing
 
 -- ---- WRAP
 
@@ -73,15 +68,15 @@ wrap_length n = 33 + n
 -- what `wrap_write` makes of the n octets that stand 32 after the start: the octets of the region
 unfoldable pub wrap_writing : Context → ℕ → List ℕ → Bool → List ℕ → ℕ → ℕ → Outcome (List ℕ)
 wrap_writing context sequence confounder sealed buf start n =
-    require (within 0 most_message n) Refusal.Length
-    (require (inside start (wrap_length n) buf) Refusal.Region
-    (done (wrap_token context (parts sequence sealed confounder (region (start + message_at) n buf)))))
+    require (within 0 most_message n) refusal.Length
+    (require (inside start (wrap_length n) buf) refusal.Region
+    (Ok (wrap_token context (parts sequence sealed confounder (region (start + message_at) n buf)))))
 
 -- whether a token is sealed, if its header is one of the two
 unfoldable pub sealed_in : List ℕ → Outcome Bool
 sealed_in octets =
-    cond (same (header_in octets) (header true)) (done true)
-    (require (same (header_in octets) (header false)) Refusal.Header (done false))
+    cond (same (header_in octets) (header true)) (Ok true)
+    (require (same (header_in octets) (header false)) refusal.Header (Ok false))
 
 -- a plain text as the parts of a token: confounder, message and the last octet
 abbrev pub apart : ℕ → Bool → List ℕ → Parts
@@ -90,9 +85,9 @@ apart n sealed text = parts n sealed (take 8 text) (take (length text - 9) (drop
 -- a plain text, if its checksum is the one that came and its last octet is the pad
 unfoldable pub verified : Context → Bool → List ℕ → List ℕ → Outcome (List ℕ)
 verified context sealed sum text =
-    require (same sum (wrap_checksum context sealed text)) Refusal.Checksum
-    (require (eqb (get_or text (length text - 1) 0) pad) Refusal.Pad
-    (done text))
+    require (same sum (wrap_checksum context sealed text)) refusal.Checksum
+    (require (eqb (get_or text (length text - 1) 0) pad) refusal.Pad
+    (Ok text))
 
 -- what the octets of a Wrap token hold
 unfoldable pub opened : Context → List ℕ → Outcome Parts
@@ -100,28 +95,21 @@ opened context octets =
     and_then (sealed_in octets) (λ (sealed : Bool).
     and_then (number_in context octets) (λ (n : ℕ).
     and_then (verified context sealed (checksum_in octets) (under_seal context sealed n (drop 24 octets))) (λ (text : List ℕ).
-    done (apart n sealed text))))
+    Ok (apart n sealed text))))
 
 -- what `wrap_open` finds in a region
 unfoldable pub wrap_opening : Context → List ℕ → ℕ → ℕ → Outcome Parts
 wrap_opening context buf start n =
-    require (within (wrap_length 0) (wrap_length most_message) n) Refusal.Length
-    (require (inside start n buf) Refusal.Region
+    require (within (wrap_length 0) (wrap_length most_message) n) refusal.Length
+    (require (inside start n buf) refusal.Region
     (opened context (region start n buf)))
 
 -- what `wrap_open` answers
-abbrev pub unwrapped_answer : Outcome Parts → Unwrapped
-unwrapped_answer (done p) = unwrapped.Message p.sequence p.sealed (length p.message)
-unwrapped_answer (refused r) = unwrapped.Refused r
+abbrev pub unwrapped : Parts → Unwrapped
+unwrapped p = record { sequence = p.sequence; sealed = p.sealed; length = length p.message }
 
--- what the step that reads the header answers
-abbrev pub sealing_answer : Outcome Bool → Sealing
-sealing_answer (done sealed) = sealing.Sealed sealed
-sealing_answer (refused r) = sealing.Refused r
-
-abbrev pub sealing_status : Sealing → Status
-sealing_status (sealing.Sealed s) = status.Done
-sealing_status (sealing.Refused r) = status.Refused r
+abbrev pub unwrapped_answer : Outcome Parts → Outcome Unwrapped
+unwrapped_answer o = map_ok unwrapped o
 
 -- ---- Opening exactly what the rule writes
 

@@ -1,18 +1,21 @@
-// Why a call is refused, and what the calls answer. `specs/Answer.antt` has the number and the values of each.
+// Why a call is refused, and what an opened Wrap token holds. `specs/Answer.antt` has the number of each refusal.
 ghost use Rattle.std.specs.Prelude.{◌≡◌};
 ghost use Rattle.tokens.specs.Answer as Spec;
 
+use std::error::Error;
+use std::fmt;
+
 // Why a call is refused: every number that a call of any crate returns, in their order. docs/RULES.md says when each is given.
-#[derive(Clone, Copy)]
+#[derive(Clone, Copy, Debug, PartialEq, Eq)]
 pub enum Refusal {
-    Length,
-    Region,
-    Usage,
-    Header,
-    Direction,
-    Checksum,
-    Pad,
-    Frame,
+    Length = 1,
+    Region = 2,
+    Usage = 3,
+    Header = 4,
+    Direction = 5,
+    Checksum = 6,
+    Pad = 7,
+    Frame = 9,
 }
 
 impl Refusal {
@@ -20,54 +23,32 @@ impl Refusal {
     pub fn number(self) -> u32
         ensures { result ≡ Spec.number self }
     {
-        match self {
-            Refusal::Length => 1,
-            Refusal::Region => 2,
-            Refusal::Usage => 3,
-            Refusal::Header => 4,
-            Refusal::Direction => 5,
-            Refusal::Checksum => 6,
-            Refusal::Pad => 7,
-            Refusal::Frame => 9,
-        }
+        self as u32
     }
 }
 
-// Whether a step is done.
-#[derive(Clone, Copy)]
-pub enum Status {
-    Done,
-    Refused(Refusal),
+impl fmt::Display for Refusal {
+    fn fmt<W: fmt::Write>(&self, f: &mut fmt::Formatter<W>) -> fmt::Result {
+        f.write_str(match self {
+            Refusal::Length => "a length is outside the limits",
+            Refusal::Region => "the region does not lie inside the buffer",
+            Refusal::Usage => "the usage is not 1 to 15",
+            Refusal::Header => "the first eight octets are not a header of this kind of token",
+            Refusal::Direction =>
+                "the direction octets are not those of the expected sender; a wrong key or strength shows so too",
+            Refusal::Checksum => "the checksum differs",
+            Refusal::Pad => "the last octet of the opened token is not 01",
+            Refusal::Frame => "not one whole frame",
+        })
+    }
 }
 
-// A key or a checksum, sixteen zeros with a refusal.
-#[derive(Clone, Copy)]
-pub struct Digest {
-    pub status: Status,
-    pub octets: [u8; 16],
-}
-
-// How many octets a call wrote, or found.
-#[derive(Clone, Copy)]
-pub enum Extent {
-    Octets(usize),
-    Refused(Refusal),
-}
-
-// The sequence number of a token.
-#[derive(Clone, Copy)]
-pub enum Sequence {
-    Number(u32),
-    Refused(Refusal),
-}
+impl Error for Refusal {}
 
 // What a Wrap token holds beside its octets: its sequence number, whether it is sealed, and how long its message is.
-#[derive(Clone, Copy)]
-pub enum Unwrapped {
-    Message {
-        sequence: u32,
-        sealed: bool,
-        length: usize,
-    },
-    Refused(Refusal),
+#[derive(Clone, Copy, Debug, PartialEq, Eq)]
+pub struct Unwrapped {
+    pub sequence: u32,
+    pub sealed: bool,
+    pub length: usize,
 }

@@ -5,7 +5,7 @@ ghost use Rattle.tokens.specs.Session as Spec;
 use crate::strength::Strength;
 
 // Who sends a token: the side that began the session, or the other.
-#[derive(Clone, Copy)]
+#[derive(Clone, Copy, Debug, PartialEq, Eq)]
 pub enum Sender {
     Initiator,
     Acceptor,

@@ -1,19 +1,27 @@
 // The encrypted message: RFC 4757, section 5.
 ghost use Rattle.std.specs.Prelude.{◌≡◌, ◌++◌, ◌+◌, ◌≤◌, length, drop};
-ghost use Rattle.tokens.specs.Answer.{status_answer, extent_answer, extent_number, extent_octets};
+ghost use Rattle.tokens.specs.Answer.{status_answer, status_number, map_ok, number_found};
 ghost use Rattle.tokens.specs.Limits.{buffer_after};
 ghost use Rattle.tokens.specs.Message as Spec;
 
-use crate::answer::{Extent, Refusal, Status};
+use crate::answer::Refusal;
 use crate::strength::Strength;
 use crate::usage::Usage;
-use crate::{checks, export, limits, mac, octets, refused, stream};
+use crate::{checks, export, limits, mac, octets, stream};
 
 // Octets before the message: the checksum's sixteen and the confounder's eight.
 pub const OVERHEAD: usize = 24;
 
 // Where the confounder stands.
 const CONFOUNDER_AT: usize = 16;
+
+// A key with what it is used for.
+#[derive(Clone, Copy)]
+struct MessageKey {
+    key: [u8; 16],
+    strength: Strength,
+    usage: Usage,
+}
 
 // K1, and K2, which is K1 before export strength sets its octets.
 #[derive(Clone, Copy)]
@@ -29,110 +37,73 @@ struct Front {
     confounder: [u8; 8],
 }
 
-// Whether the checksum was right, and the confounder: plain if it was, and else as it came.
-#[derive(Clone, Copy)]
-struct Opened {
-    status: Status,
-    confounder: [u8; 8],
-}
+impl MessageKey {
+    // K1 and K2.
+    fn derive(self) -> Keys
+        ensures { (result.k1 ≡ Spec.k1 self.key self.strength self.usage.t) × (result.k2 ≡ Spec.k2 self.key self.strength self.usage.t) }
+    {
+        let salt = self.usage.salt(self.strength);
+        let k2 = mac::of(self.key, salt.as_slice());
+        let k1 = export::fill(self.strength, k2);
+        Keys { k1, k2 }
+    }
 
-// K1 and K2 of a key.
-fn derive(key: [u8; 16], strength: Strength, usage: Usage) -> Keys
-    ensures { (result.k1 ≡ Spec.k1 key strength usage.t) × (result.k2 ≡ Spec.k2 key strength usage.t) }
-{
-    let salt = usage.salt(strength);
-    let octets = salt.octets;
-    let n = salt.length;
-    let k2 = mac::of(key, &octets[..n]);
-    let k1 = export::fill(strength, k2);
-    Keys { k1: k1, k2: k2 }
-}
+    // Encrypts a confounder and a message in place, and returns the checksum, which goes before them.
+    fn seal(self, confounder: &mut [u8; 8], message: &mut [u8]) -> [u8; 16]
+        ensures { result ++ (confounder.new ++ message.new) ≡ Spec.encrypt self.key self.strength self.usage.t (Spec.parts confounder.old message.old) }
+    {
+        let Keys { k1, k2 } = self.derive();
+        let checksum = mac::of_two(k2, confounder, message);
+        stream::run(mac::of(k1, &checksum), confounder, message);
+        checksum
+    }
 
-// Encrypts a message in place, and gives the octets that go before it.
-fn seal(
-    key: [u8; 16],
-    strength: Strength,
-    usage: Usage,
-    confounder: [u8; 8],
-    message: &mut [u8],
-) -> Front
-    ensures { result.checksum ++ (result.confounder ++ message.new) ≡ Spec.encrypt key strength usage.t (Spec.parts confounder message.old) }
-{
-    let keys = derive(key, strength, usage);
-    let k1 = keys.k1;
-    let k2 = keys.k2;
-    let checksum = mac::of_two(k2, &confounder, message);
-    let k3 = mac::of(k1, &checksum);
-    let encrypted = stream::run(k3, confounder, message);
-    Front {
-        checksum: checksum,
-        confounder: encrypted,
+    // Decrypts a confounder and a message in place, and encrypts them again if the checksum is not theirs.
+    fn unseal(
+        self,
+        checksum: [u8; 16],
+        confounder: &mut [u8; 8],
+        message: &mut [u8],
+    ) -> Result<(), Refusal>
+        ensures status { result ≡ status_answer (Spec.opened self.key self.strength self.usage.t (checksum ++ (confounder.old ++ message.old))) }
+        ensures octets { confounder.new ++ message.new ≡ buffer_after Spec.plain 0 (confounder.old ++ message.old) (Spec.opened self.key self.strength self.usage.t (checksum ++ (confounder.old ++ message.old))) }
+    {
+        let Keys { k1, k2 } = self.derive();
+        let k3 = mac::of(k1, &checksum);
+        stream::run(k3, confounder, message);
+        let expected = mac::of_two(k2, confounder, message);
+        if let Err(refusal) = checks::equal(&checksum, &expected, Refusal::Checksum) {
+            stream::run(k3, confounder, message);
+            return Err(refusal);
+        }
+        Ok(())
+    }
+
+    // Writes the encrypted message over a region, in which the message stands.
+    fn write(self, mut confounder: [u8; 8], region: &mut [u8])
+        requires { 24 ≤ length region.old }
+        ensures { region.new ≡ Spec.encrypt self.key self.strength self.usage.t (Spec.parts confounder (drop 24 region.old)) }
+    {
+        let checksum = self.seal(&mut confounder, &mut region[OVERHEAD..]);
+        octets::place(region, 0, &checksum);
+        octets::place(region, CONFOUNDER_AT, &confounder);
+    }
+
+    // Restores confounder and message in a region, or leaves it as it came.
+    fn read(self, region: &mut [u8]) -> Result<(), Refusal>
+        requires { 24 ≤ length region.old }
+        ensures status { result ≡ status_answer (Spec.opened self.key self.strength self.usage.t region.old) }
+        ensures octets { region.new ≡ buffer_after Spec.plain 16 region.old (Spec.opened self.key self.strength self.usage.t region.old) }
+    {
+        let checksum = octets::array_at(region, 0);
+        let mut confounder = octets::array_at(region, CONFOUNDER_AT);
+        let status = self.unseal(checksum, &mut confounder, &mut region[OVERHEAD..]);
+        octets::place(region, CONFOUNDER_AT, &confounder);
+        status
     }
 }
 
-// Decrypts a message in place, and encrypts it again if the checksum is not that of what comes out.
-fn unseal(
-    key: [u8; 16],
-    strength: Strength,
-    usage: Usage,
-    front: Front,
-    message: &mut [u8],
-) -> Opened
-    ensures status { result.status ≡ status_answer (Spec.opened key strength usage.t (front.checksum ++ (front.confounder ++ message.old))) }
-    ensures octets { result.confounder ++ message.new ≡ buffer_after Spec.plain 0 (front.confounder ++ message.old) (Spec.opened key strength usage.t (front.checksum ++ (front.confounder ++ message.old))) }
-{
-    let keys = derive(key, strength, usage);
-    let k1 = keys.k1;
-    let k2 = keys.k2;
-    let checksum = front.checksum;
-    let confounder = front.confounder;
-    let k3 = mac::of(k1, &checksum);
-    let plain = stream::run(k3, confounder, message);
-    let expected = mac::of_two(k2, &plain, message);
-    let status = checks::equal(&checksum, &expected, Refusal::Checksum);
-    let Status::Done = status else {
-        let restored = stream::run(k3, plain, message);
-        return Opened {
-            status: status,
-            confounder: restored,
-        };
-    };
-    Opened {
-        status: status,
-        confounder: plain,
-    }
-}
-
-// Writes the encrypted message over a region, in which the message stands.
-fn write(key: [u8; 16], strength: Strength, usage: Usage, confounder: [u8; 8], region: &mut [u8])
-    requires { 24 ≤ length region.old }
-    ensures { region.new ≡ Spec.encrypt key strength usage.t (Spec.parts confounder (drop 24 region.old)) }
-{
-    let front = seal(key, strength, usage, confounder, &mut region[OVERHEAD..]);
-    let checksum = front.checksum;
-    let encrypted = front.confounder;
-    octets::place(region, 0, &checksum);
-    octets::place(region, CONFOUNDER_AT, &encrypted);
-}
-
-// Restores confounder and message in a region, or leaves it as it came.
-fn read(key: [u8; 16], strength: Strength, usage: Usage, region: &mut [u8]) -> Status
-    requires { 24 ≤ length region.old }
-    ensures status { result ≡ status_answer (Spec.opened key strength usage.t region.old) }
-    ensures octets { region.new ≡ buffer_after Spec.plain 16 region.old (Spec.opened key strength usage.t region.old) }
-{
-    let front = Front {
-        checksum: octets::sixteen(region, 0),
-        confounder: octets::eight(region, CONFOUNDER_AT),
-    };
-    let opened = unseal(key, strength, usage, front, &mut region[OVERHEAD..]);
-    let confounder = opened.confounder;
-    octets::place(region, CONFOUNDER_AT, &confounder);
-    let status = opened.status;
-    status
-}
-
-// Encrypts the `len` octets that stand 24 after `start`, and answers how many octets it wrote from `start`.
+// Encrypts the `len` octets that stand 24 after `start`, and returns how many octets it wrote from `start`.
 pub fn encrypt(
     key: [u8; 16],
     strength: Strength,
@@ -141,31 +112,24 @@ pub fn encrypt(
     buf: &mut [u8],
     start: usize,
     len: usize,
-) -> Extent
-    ensures answer { result ≡ extent_answer length (Spec.encryption key strength usage confounder buf.old start len) }
+) -> Result<usize, Refusal>
+    ensures answer { result ≡ map_ok length (Spec.encryption key strength usage confounder buf.old start len) }
     ensures buffer { buf.new ≡ buffer_after Spec.all_octets start buf.old (Spec.encryption key strength usage confounder buf.old start len) }
 {
-    let sized = checks::length(0, limits::MOST_MESSAGE, len);
-    let Status::Done = sized else {
-        return Extent::Refused(refused::by(sized));
-    };
+    checks::length(0, limits::MOST_MESSAGE, len)?;
     let total = OVERHEAD + len;
-    let placed = checks::region(start, total, buf.len());
-    let Status::Done = placed else {
-        return Extent::Refused(refused::by(placed));
+    checks::region(start, total, buf.len())?;
+    let usage = Usage::try_from(usage)?;
+    let key = MessageKey {
+        key,
+        strength,
+        usage,
     };
-    let named = Usage::new(usage);
-    let status = named.status;
-    let Status::Done = status else {
-        return Extent::Refused(refused::by(status));
-    };
-    let named_usage = named.usage;
-    let end = start + total;
-    write(key, strength, named_usage, confounder, &mut buf[start..end]);
-    Extent::Octets(total)
+    key.write(confounder, &mut buf[start..start + total]);
+    Ok(total)
 }
 
-// Decrypts the encrypted message in the region of `len` octets from `start`, and answers the length of the message in it. It is
+// Decrypts the encrypted message in the region of `len` octets from `start`, and returns the length of the message in it. It is
 // done exactly when the rule of section 5 writes some confounder and message as the region's octets (`exact`); a region that is
 // refused is left as it came.
 pub fn decrypt(
@@ -175,29 +139,19 @@ pub fn decrypt(
     buf: &mut [u8],
     start: usize,
     len: usize,
-) -> Extent
-    ensures answer { result ≡ extent_answer Spec.message_length (Spec.decryption key strength usage buf.old start len) }
+) -> Result<usize, Refusal>
+    ensures answer { result ≡ map_ok Spec.message_length (Spec.decryption key strength usage buf.old start len) }
     ensures buffer { buf.new ≡ buffer_after Spec.plain (start + 16) buf.old (Spec.decryption key strength usage buf.old start len) }
-    ensures exact { Spec.ReadsExactly key strength usage buf.old start len (extent_number result) (extent_octets result) buf.new }
+    ensures exact { Spec.ReadsExactly key strength usage buf.old start len (status_number result) (number_found result) buf.new }
 {
-    let sized = checks::length(OVERHEAD, OVERHEAD + limits::MOST_MESSAGE, len);
-    let Status::Done = sized else {
-        return Extent::Refused(refused::by(sized));
+    checks::length(OVERHEAD, OVERHEAD + limits::MOST_MESSAGE, len)?;
+    checks::region(start, len, buf.len())?;
+    let usage = Usage::try_from(usage)?;
+    let key = MessageKey {
+        key,
+        strength,
+        usage,
     };
-    let placed = checks::region(start, len, buf.len());
-    let Status::Done = placed else {
-        return Extent::Refused(refused::by(placed));
-    };
-    let named = Usage::new(usage);
-    let status = named.status;
-    let Status::Done = status else {
-        return Extent::Refused(refused::by(status));
-    };
-    let named_usage = named.usage;
-    let end = start + len;
-    let opened = read(key, strength, named_usage, &mut buf[start..end]);
-    let Status::Done = opened else {
-        return Extent::Refused(refused::by(opened));
-    };
-    Extent::Octets(len - OVERHEAD)
+    key.read(&mut buf[start..start + len])?;
+    Ok(len - OVERHEAD)
 }

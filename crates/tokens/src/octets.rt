@@ -7,39 +7,15 @@ pub fn place(buf: &mut [u8], at: usize, part: &[u8])
     requires { at + length part.now ≤ length buf.old }
     ensures { buf.new ≡ placed at part.now buf.old }
 {
-    let mut i: usize = 0;
-    while i < part.len() {
-        buf[at + i] = part[i];
-        i += 1;
-    }
+    buf[at..at + part.len()].copy_from_slice(part);
 }
 
-// The eight octets of `buf` from `at`.
-pub fn eight(buf: &[u8], at: usize) -> [u8; 8]
-    requires { at + 8 ≤ length buf.now }
-    ensures { result ≡ region at 8 buf.now }
+// The N octets of `buf` from `at`.
+pub fn array_at<const N: usize>(buf: &[u8], at: usize) -> [u8; N]
+    requires { at + N ≤ length buf.now }
+    ensures { result ≡ region at N buf.now }
 {
-    let mut octets = [0u8; 8];
-    place(&mut octets, 0, &buf[at..at + 8]);
-    octets
-}
-
-// The sixteen octets of `buf` from `at`.
-pub fn sixteen(buf: &[u8], at: usize) -> [u8; 16]
-    requires { at + 16 ≤ length buf.now }
-    ensures { result ≡ region at 16 buf.now }
-{
-    let mut octets = [0u8; 16];
-    place(&mut octets, 0, &buf[at..at + 16]);
-    octets
-}
-
-// The twenty-four octets of `buf` from `at`.
-pub fn twenty_four(buf: &[u8], at: usize) -> [u8; 24]
-    requires { at + 24 ≤ length buf.now }
-    ensures { result ≡ region at 24 buf.now }
-{
-    let mut octets = [0u8; 24];
-    place(&mut octets, 0, &buf[at..at + 24]);
+    let mut octets = [0; N];
+    octets.copy_from_slice(&buf[at..at + N]);
     octets
 }

@@ -20,12 +20,10 @@ impl Session {
         ensures { result ≡ Spec.outgoing self }
     {
         let key = self.key;
-        let strength = self.strength;
-        let role = self.role;
         Context {
-            key: key,
-            strength: strength,
-            sender: role,
+            key,
+            strength: self.strength,
+            sender: self.role,
         }
     }
 
@@ -33,13 +31,9 @@ impl Session {
     pub fn incoming(self) -> Context
         ensures { result ≡ Spec.incoming self }
     {
-        let key = self.key;
-        let strength = self.strength;
-        let role = self.role;
         Context {
-            key: key,
-            strength: strength,
-            sender: role.other(),
+            sender: self.role.other(),
+            ..self.outgoing()
         }
     }
 
@@ -47,14 +41,9 @@ impl Session {
     pub fn peer(self) -> Session
         ensures { result ≡ Spec.peer self }
     {
-        let key = self.key;
-        let strength = self.strength;
-        let role = self.role;
         Session {
-            key: key,
-            strength: strength,
-            role: role.other(),
-            sealed_only: self.sealed_only,
+            role: self.role.other(),
+            ..self
         }
     }
 }

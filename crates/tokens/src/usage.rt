@@ -1,22 +1,16 @@
 // The fifteen usages and their message types: RFC 4757, section 3.
-ghost use Rattle.std.specs.Prelude.{◌≡◌, ◌≤◌};
-ghost use Rattle.tokens.specs.Strength.{salt_answer};
+ghost use Rattle.std.specs.Prelude.{◌≡◌};
+ghost use Rattle.tokens.specs.Strength.{salt};
 ghost use Rattle.tokens.specs.Usage as Spec;
 
-use crate::answer::{Refusal, Status};
-use crate::strength::{Salt, Strength};
+use crate::answer::Refusal;
+use crate::short::Short;
+use crate::strength::Strength;
 
 // What a key is used for: T, the message type as four octets, the lowest first.
-#[derive(Clone, Copy)]
+#[derive(Clone, Copy, Debug, PartialEq, Eq)]
 pub struct Usage {
     t: [u8; 4],
-}
-
-// A usage by its number, or T as zeros with a refusal.
-#[derive(Clone, Copy)]
-pub struct Named {
-    pub status: Status,
-    pub usage: Usage,
 }
 
 impl Usage {
@@ -50,61 +44,36 @@ impl Usage {
 
     pub const KRB_SAFE_CKSUM: u32 = 15;
 
-    // The usage of this number, of the fifteen.
-    pub fn new(number: u32) -> Named
-        ensures { result ≡ Spec.named number }
-    {
-        if number < Usage::AS_REQ_PA_ENC_TIMESTAMP {
-            return not_named();
-        }
-        if Usage::KRB_SAFE_CKSUM < number {
-            return not_named();
-        }
-        Named {
-            status: Status::Done,
-            usage: Usage {
-                t: [message_type(number), 0, 0, 0],
-            },
-        }
-    }
-
     // T.
     pub fn t(self) -> [u8; 4]
         ensures { result ≡ self.t }
     {
-        let t = self.t;
-        t
+        self.t
     }
 
     // The salt for this usage's T.
-    pub fn salt(self, strength: Strength) -> Salt
-        ensures { result ≡ salt_answer strength self.t }
+    pub fn salt(self, strength: Strength) -> Short<14>
+        ensures { result ≡ salt strength self.t }
     {
-        let t = self.t;
-        Salt::new(strength, t)
+        strength.salt(self.t)
     }
 }
 
-// The refusal of a number that names no usage.
-fn not_named() -> Named
-    ensures { result ≡ Spec.not_named }
-{
-    Named {
-        status: Status::Refused(Refusal::Usage),
-        usage: Usage { t: [0u8; 4] },
-    }
-}
+// The message types, from usage 1 to usage 15. They are the usage's number, but for two of the encrypted parts of a reply, which have
+// the third's.
+const MESSAGE_TYPES: [u8; 15] = [1, 2, 8, 4, 5, 6, 7, 8, 8, 10, 11, 12, 13, 14, 15];
 
-// The message type is the usage's number, but for two of the encrypted parts of a reply, which have the third's.
-fn message_type(number: u32) -> u8
-    requires { (1 ≤ number) × (number ≤ 15) }
-    ensures { result ≡ Spec.message_type number }
-{
-    if number == Usage::AS_REP_ENCRYPTED_PART {
-        return 8;
+// The usage of a number, of the fifteen.
+impl TryFrom<u32> for Usage {
+    type Error = Refusal;
+
+    ghost try_from_gives = { λ number r. r ≡ Spec.named number };
+
+    fn try_from(number: u32) -> Result<Self, Refusal> {
+        if number < Usage::AS_REQ_PA_ENC_TIMESTAMP || Usage::KRB_SAFE_CKSUM < number {
+            return Err(Refusal::Usage);
+        }
+        let t = MESSAGE_TYPES[number as usize - 1];
+        Ok(Usage { t: [t, 0, 0, 0] })
     }
-    if number == Usage::TGS_REP_ENCRYPTED_PART_SUBKEY {
-        return 8;
-    }
-    (number % 256) as u8
 }

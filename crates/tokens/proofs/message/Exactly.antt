@@ -7,20 +7,20 @@ use native.Mathlib.Omega.{arith}
 use lib.ListN.{length, take, drop, length-append, length-drop, take-append-drop}
 use lib.Seq.{take_at, drop_at, length-take-le}
 use borrow.Author.Tests.{leb-true, le-leb}
+use Rattle.std.specs.Prelude.{Ok}
 use Rattle.primitives.specs.Octets.{Octets}
 use Rattle.primitives.specs.Rc4.{rc4, key_schedule}
 use Rattle.primitives.proofs.Laws.{apply_length, apply_octets, apply_twice, schedule_octets}
-use Rattle.tokens.specs.Answer.{Outcome, done, require, extent_number, extent_octets, extent_answer}
+use Rattle.tokens.specs.Answer.{Outcome, require, map_ok, status_number, number_found}
 use Rattle.tokens.specs.Limits.{most_message, region, buffer_after}
 use Rattle.tokens.specs.Message.{Parts, message_length, plain, k3, message_checksum, encrypt, overhead, decrypted, apart, opened, decryption, Written, HandedBack, ReadsExactly}
 use Rattle.tokens.specs.Octets.{same}
 use Rattle.tokens.specs.Usage.{least_usage, most_usage, type_octets}
-use Rattle.tokens.specs.declared.answer.Extent.{Extent}
 use Rattle.tokens.specs.declared.strength.Strength.{Strength}
 use Rattle.tokens.proofs.Lengths.{message_checksum_length, encrypt_length}
 use Rattle.tokens.proofs.Lent.{octets_take, octets_drop, region_length, confounder_stands, body_stands}
 use Rattle.tokens.proofs.SameOctets.{same_true, same_self}
-use Rattle.tokens.proofs.Steps.{require_done, done_same, done_told, within_bounds}
+use Rattle.tokens.proofs.Steps.{require_done, done_same, done_mapped, within_bounds}
 use Rattle.tokens.proofs.message.Sealing.{plain_apart}
 
 apart_plain : (p : Parts) → length p.confounder ≡ 8 → apart (plain p) ≡ p
@@ -43,10 +43,10 @@ module _ (key : List ℕ) (strength : Strength) (t : List ℕ) where
       let h = message_checksum_length key strength t text in
       rw (take_at sum (rc4 (k3 key strength t sum) text) 16 h, drop_at sum (rc4 (k3 key strength t sum) text) 16 h) (apply_twice st text)
 
-  pub encrypted_opens : (p : Parts) → length p.confounder ≡ 8 → opened key strength t (encrypt key strength t p) ≡ done p
+  pub encrypted_opens : (p : Parts) → length p.confounder ≡ 8 → opened key strength t (encrypt key strength t p) ≡ Ok p
   unfolding opened require
   encrypted_opens p h =
-      rw (encrypt_decrypted p, encrypt_checksum p, same_self (message_checksum key strength t (plain p))) (ap done (apart_plain p h))
+      rw (encrypt_decrypted p, encrypt_checksum p, same_self (message_checksum key strength t (plain p))) (ap Ok (apart_plain p h))
 
   -- ---- What is opened is what the rule writes
 
@@ -60,11 +60,11 @@ module _ (key : List ℕ) (strength : Strength) (t : List ℕ) where
       let k = k3 key strength t (take 16 octets) in
       apply_octets (key_schedule k) (drop 16 octets) (schedule_octets k) (octets_drop 16 octets h)
 
-  module _ (octets : List ℕ) {p : Parts} (e : opened key strength t octets ≡ done p) where
+  module _ (octets : List ℕ) {p : Parts} (e : opened key strength t octets ≡ Ok p) where
     abbrev text : List ℕ
     text = decrypted key strength t octets
 
-    tests : (same (take 16 octets) (message_checksum key strength t text) ≡ true) × (done (apart text) ≡ done p)
+    tests : (same (take 16 octets) (message_checksum key strength t text) ≡ true) × ◌≡◌ {A = Outcome Parts} (Ok (apart text)) (Ok p)
     unfolding opened
     tests = require_done _ _ _ p e
 
@@ -100,7 +100,7 @@ module _ (key : List ℕ) (strength : Strength) (t : List ℕ) where
 -- ---- For a usage
 
 module _ (key : List ℕ) (strength : Strength) (usage : ℕ) where
-  pub written_opens : (p : Parts) (octets : List ℕ) → Written key strength usage p octets → opened key strength (type_octets usage) octets ≡ done p
+  pub written_opens : (p : Parts) (octets : List ℕ) → Written key strength usage p octets → opened key strength (type_octets usage) octets ≡ Ok p
   written_opens p octets w = ap (opened key strength (type_octets usage)) (sym w.as_written) ∙ encrypted_opens key strength (type_octets usage) p w.confounder_eight
 
   pub only_one : (p q : Parts) (octets : List ℕ) → Written key strength usage p octets → Written key strength usage q octets → p ≡ q
@@ -117,7 +117,7 @@ module _ (key : List ℕ) (strength : Strength) (usage : ℕ) where
     abbrev found : Outcome Parts
     found = decryption key strength usage buf start n
 
-    written_found : start + n ≤ length buf → (p : Parts) → Written key strength usage p (region start n buf) → found ≡ done p
+    written_found : start + n ≤ length buf → (p : Parts) → Written key strength usage p (region start n buf) → found ≡ Ok p
     unfolding decryption require
     written_found h p w =
         let l : n ≡ 24 + length p.message = sym (region_length buf start n h) ∙ written_length p (region start n buf) w in
@@ -129,7 +129,7 @@ module _ (key : List ℕ) (strength : Strength) (usage : ℕ) where
           le-leb usage most_usage w.usage_most,
         ) (written_opens p (region start n buf) w)
 
-    found_written : Octets buf → (p : Parts) → found ≡ done p → (start + n ≤ length buf) × Written key strength usage p (region start n buf)
+    found_written : Octets buf → (p : Parts) → found ≡ Ok p → (start + n ≤ length buf) × Written key strength usage p (region start n buf)
     unfolding decryption
     found_written bytes p e =
         let sized = require_done _ _ _ p e in
@@ -155,7 +155,7 @@ module _ (key : List ℕ) (strength : Strength) (usage : ℕ) where
         )
 
     handed_back : start + n ≤ length buf → (p : Parts) → Written key strength usage p (region start n buf)
-        → HandedBack p start 0 (message_length p) (buffer_after plain (start + 16) buf (done p))
+        → HandedBack p start 0 (message_length p) (buffer_after plain (start + 16) buf (Ok p))
     unfolding plain
     handed_back h p w =
         let l : n ≡ 24 + length p.message = sym (region_length buf start n h) ∙ written_length p (region start n buf) w in
@@ -169,19 +169,14 @@ module _ (key : List ℕ) (strength : Strength) (usage : ℕ) where
         }
 
     -- what the definition gives meets the demand
-    pub reads_exactly : Octets buf → {answer : Extent} {after : List ℕ} → answer ≡ extent_answer message_length found → after ≡ buffer_after plain (start + 16) buf found
-        → ReadsExactly key strength usage buf start n (extent_number answer) (extent_octets answer) after
+    pub reads_exactly : Octets buf → {answer : Outcome ℕ} {after : List ℕ} → answer ≡ map_ok message_length found → after ≡ buffer_after plain (start + 16) buf found
+        → ReadsExactly key strength usage buf start n (status_number answer) (number_found answer) after
     reads_exactly bytes {answer} {after} ea eb =
         record {
           only_then = λ z.
-              let d = done_told message_length found (ap extent_number (sym ea) ∙ z) in
+              let d = done_mapped message_length found (ap status_number (sym ea) ∙ z) in
               let w = found_written bytes d.0 d.1 in
               (w.0, (d.0, w.1));
           always_then = λ h p w. rw (ea, eb, written_found h p w) (handed_back h p w);
           one_set = λ p q. only_one p q (region start n buf);
         }
-
-    -- the clauses of `decrypt`, of which the third follows from the others
-    pub exact_clauses : Octets buf → {answer : Extent} {after : List ℕ} → answer ≡ extent_answer message_length found → after ≡ buffer_after plain (start + 16) buf found
-        → (answer ≡ extent_answer message_length found) × ((after ≡ buffer_after plain (start + 16) buf found) × ReadsExactly key strength usage buf start n (extent_number answer) (extent_octets answer) after)
-    exact_clauses bytes ea eb = (ea, (eb, reads_exactly bytes ea eb))

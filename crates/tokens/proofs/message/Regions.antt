@@ -4,12 +4,11 @@ use mathlib.Core.List.{List, ◌++◌}
 use Prim.Native.Nat.{ℕ, ◌+◌, ◌-◌, ◌≤◌}
 use native.Mathlib.Omega.{arith}
 use lib.ListN.{length, take, drop, length-append, length-take, length-drop}
-use Rattle.tokens.specs.Answer.{Outcome, done, status_answer, extent_answer}
+use Rattle.tokens.specs.declared.answer.Refusal.{Refusal}
+use Rattle.std.specs.Prelude.{Ok, ⊤, Result}
+use Rattle.tokens.specs.Answer.{Outcome, status_answer, map_ok}
 use Rattle.tokens.specs.Limits.{region, placed, buffer_after}
 use Rattle.tokens.specs.Message.{Parts, parts, message_length, plain, encrypt, opened}
-use Rattle.tokens.specs.declared.answer.Extent.TheVariants as extent
-use Rattle.tokens.specs.declared.answer.Status.{Status}
-use Rattle.tokens.specs.declared.answer.Status.TheVariants.{Done}
 use Rattle.tokens.specs.declared.strength.Strength.{Strength}
 use Rattle.tokens.proofs.Lengths.{encrypt_length}
 use Rattle.tokens.proofs.Lent.{region_length, written_region, read_region, behind}
@@ -42,17 +41,17 @@ module _ (key : List ℕ) (strength : Strength) (t : List ℕ) (buf : List ℕ) 
     o = opened key strength t (region start n buf)
 
     -- from the part of k octets that was lent, and the T that it was opened for
-    pub read_status : (k : ℕ) (u : List ℕ) {s : Status} → k ≡ n → u ≡ t → s ≡ status_answer (opened key strength u (region start k buf)) → s ≡ status_answer o
+    pub read_status : (k : ℕ) (u : List ℕ) {s : Result ⊤ Refusal} → k ≡ n → u ≡ t → s ≡ status_answer (opened key strength u (region start k buf)) → s ≡ status_answer o
     read_status k u e eu es = es ∙ rw (e, eu)
 
-    fits : (q : Parts) → o ≡ done q → 16 + length (plain q) ≤ n
+    fits : (q : Parts) → o ≡ Ok q → 16 + length (plain q) ≤ n
     fits q h = omega (arith, opened_length key strength t (region start n buf) h, region_length buf start n inside)
 
     pub read_buffer : (k : ℕ) (u : List ℕ) {after : List ℕ} → k ≡ n → u ≡ t → after ≡ buffer_after plain 16 (region start k buf) (opened key strength u (region start k buf))
         → take start buf ++ (after ++ drop k (drop start buf)) ≡ buffer_after plain (start + 16) buf o
     read_buffer k u e eu ea = read_region buf start n k inside e plain 16 o fits (ea ∙ rw (e, eu))
 
-    pub read_length : {s : Status} → s ≡ status_answer o → s ≡ Done → extent.Octets (n - 24) ≡ extent_answer message_length o
+    pub read_length : {s : Result ⊤ Refusal} → s ≡ status_answer o → s ≡ Ok tt → Ok (n - 24) ≡ map_ok message_length o
     read_length e d =
         let found = was_done o (sym e ∙ d) in
         let size : message_length found.0 ≡ n - 24 = opened_message key strength t (region start n buf) found.1 ∙ ap (λ (m : ℕ). m - 24) (region_length buf start n inside) in

@@ -4,17 +4,16 @@ use mathlib.Core.List.{List, ◌++◌}
 use Prim.Native.Nat.{ℕ}
 use lib.ListN.{length, take-append-drop}
 use lib.Seq.{take_at, drop_at}
+use Rattle.std.specs.Prelude.{Ok, ⊤, Result, Err}
 use Rattle.primitives.specs.Hmac.{hmac}
 use Rattle.primitives.specs.Rc4.{rc4, key_schedule}
 use Rattle.primitives.proofs.Laws.{apply_twice, apply_length}
-use Rattle.tokens.specs.Answer.{done, require, tested, status_answer}
+use Rattle.tokens.specs.Answer.{require, tested, status_answer}
 use Rattle.tokens.specs.Limits.{buffer_after}
 use Rattle.tokens.specs.Message.{parts, plain, k1, k2, k3, message_checksum, encrypt, decrypted, apart, opened}
 use Rattle.tokens.specs.Octets.{same}
 use Rattle.tokens.specs.declared.answer.Refusal.{Refusal}
 use Rattle.tokens.specs.declared.answer.Refusal.TheVariants.{Checksum}
-use Rattle.tokens.specs.declared.answer.Status.{Status}
-use Rattle.tokens.specs.declared.answer.Status.TheVariants.{Done, Refused}
 use Rattle.tokens.specs.declared.strength.Strength.{Strength}
 use Rattle.tokens.proofs.Placing.{placed_all}
 use Rattle.tokens.proofs.Steps.{goes_on, stops, status_decided}
@@ -54,20 +53,20 @@ module _ (key : List ℕ) (strength : Strength) (t : List ℕ) where
     out_is = under_k3 g ∙ rw (take_at sum text 16 sixteen, drop_at sum text 16 sixteen)
 
     -- what opening decides, by the checksum of what the run gave
-    opened_is : opened key strength t (sum ++ text) ≡ require (same sum expected) Checksum (done (apart out))
+    opened_is : opened key strength t (sum ++ text) ≡ require (same sum expected) Checksum (Ok (apart out))
     unfolding opened message_checksum
     opened_is = rw (← out_is, take_at sum text 16 sixteen, expected-is, g.k2_is)
 
-    pub opened_status : {s : Status} → s ≡ tested (same sum expected) Checksum → s ≡ status_answer (opened key strength t (sum ++ text))
+    pub opened_status : {s : Result ⊤ Refusal} → s ≡ tested (same sum expected) Checksum → s ≡ status_answer (opened key strength t (sum ++ text))
     opened_status e = status_decided (same sum expected) Checksum (apart out) e opened_is
 
-    pub opened_plain : {s : Status} → s ≡ tested (same sum expected) Checksum → s ≡ Done → out ≡ buffer_after plain 0 text (opened key strength t (sum ++ text))
+    pub opened_plain : {s : Result ⊤ Refusal} → s ≡ tested (same sum expected) Checksum → s ≡ Ok tt → out ≡ buffer_after plain 0 text (opened key strength t (sum ++ text))
     opened_plain e d =
         let as_long : length text ≡ length out = sym (ap length g.run_is ∙ apply_length (key_schedule three) text) in
-        rw (opened_is, goes_on (same sum expected) Checksum (done (apart out)) e d, plain_apart out) (sym (placed_all text out as_long))
+        rw (opened_is, goes_on (same sum expected) Checksum (Ok (apart out)) e d, plain_apart out) (sym (placed_all text out as_long))
 
     -- run again, what was refused is back
-    pub opened_restored : {s : Status} {q : Refusal} {back : List ℕ} → s ≡ tested (same sum expected) Checksum → s ≡ Refused q → back ≡ rc4 three out
+    pub opened_restored : {s : Result ⊤ Refusal} {q : Refusal} {back : List ℕ} → s ≡ tested (same sum expected) Checksum → s ≡ Err q → back ≡ rc4 three out
         → back ≡ buffer_after plain 0 text (opened key strength t (sum ++ text))
     opened_restored {s} {q} {back} e d b =
-        rw (opened_is, stops (same sum expected) Checksum (done (apart out)) e d) (b ∙ ap (rc4 three) g.run_is ∙ apply_twice (key_schedule three) text)
+        rw (opened_is, stops (same sum expected) Checksum (Ok (apart out)) e d) (b ∙ ap (rc4 three) g.run_is ∙ apply_twice (key_schedule three) text)

@@ -5,20 +5,20 @@ use Prim.Native.Nat.{ℕ, ◌+◌, ◌≤◌, ◌<◌}
 use native.Mathlib.Omega.{arith}
 use lib.ListN.{length, drop, drop_of_length-le}
 use borrow.Author.Tests.{leb-true, le-leb}
+use Rattle.std.specs.Prelude.{Ok}
 use Rattle.primitives.specs.Octets.{Octets}
-use Rattle.tokens.specs.Answer.{Outcome, done, require, and_then, sequence_refusal, sequence_number, sequence_answer}
+use Rattle.tokens.specs.Answer.{Outcome, require, and_then, status_number, number_found}
 use Rattle.tokens.specs.Limits.{most_message, region}
 use Rattle.tokens.specs.Mic.{header, mic_checksum, mic_token, mic_length, mic_number, mic_reading, Written, ReadsExactly}
 use Rattle.tokens.specs.Octets.{same}
 use Rattle.tokens.specs.Token.{sequence_numbers, front, header_in, checksum_in, number_in}
 use Rattle.tokens.specs.declared.answer.Refusal.TheVariants.{Checksum}
-use Rattle.tokens.specs.declared.answer.Sequence.{Sequence}
 use Rattle.tokens.specs.declared.context.Context.{Context}
 use Rattle.tokens.proofs.Fronts.{front_header, front_checksum, front_number, number_fits, front_back}
 use Rattle.tokens.proofs.Lengths.{mic_header_length, mic_checksum_length, mic_length_lem}
 use Rattle.tokens.proofs.Lent.{octets_take, octets_drop, region_length}
 use Rattle.tokens.proofs.SameOctets.{same_true, same_self}
-use Rattle.tokens.proofs.Steps.{require_done, then_done, done_same, number_told, within_bounds}
+use Rattle.tokens.proofs.Steps.{require_done, then_done, done_same, within_bounds, done_told}
 
 module _ (context : Context) (text : List ℕ) where
   abbrev sum : List ℕ
@@ -31,7 +31,7 @@ module _ (context : Context) (text : List ℕ) where
 
   module _ (n : ℕ) (fits : n < sequence_numbers) where
     -- with nothing after it
-    read_alone : mic_number context text (front context header sum n ++ []) ≡ done n
+    read_alone : mic_number context text (front context header sum n ++ []) ≡ Ok n
     unfolding mic_number require and_then
     read_alone =
         rw (
@@ -42,20 +42,20 @@ module _ (context : Context) (text : List ℕ) where
           same_self sum,
         )
 
-    token_read : mic_number context text (mic_token context n text) ≡ done n
+    token_read : mic_number context text (mic_token context n text) ≡ Ok n
     unfolding mic_token
     token_read = ap (mic_number context text) (sym (append-nil (front context header sum n))) ∙ read_alone
 
   -- ---- What is read is what the rule writes
 
   module _ (octets : List ℕ) (bytes : Octets octets) (size : length octets ≡ 24) where
-    read_token : (n : ℕ) → mic_number context text octets ≡ done n → (n < sequence_numbers) × (mic_token context n text ≡ octets)
+    read_token : (n : ℕ) → mic_number context text octets ≡ Ok n → (n < sequence_numbers) × (mic_token context n text ≡ octets)
     unfolding mic_number mic_token
     read_token n e =
         let known = require_done _ _ _ n e in
-        let numbered = then_done (λ (m : ℕ). require (same (checksum_in octets) sum) Checksum (done m)) (number_in context octets) n known.1 in
-        let signed = require_done (same (checksum_in octets) sum) Checksum (done numbered.0) n numbered.1.1 in
-        let found : number_in context octets ≡ done n = numbered.1.0 ∙ signed.1 in
+        let numbered = then_done (λ (m : ℕ). require (same (checksum_in octets) sum) Checksum (Ok m)) (number_in context octets) n known.1 in
+        let signed = require_done (same (checksum_in octets) sum) Checksum (Ok numbered.0) n numbered.1.1 in
+        let found : number_in context octets ≡ Ok n = numbered.1.0 ∙ signed.1 in
         let least : 24 ≤ length octets = omega arith in
         let past : length octets ≤ 24 = omega arith in
         let back = front_back context octets bytes least found in (
@@ -66,7 +66,7 @@ module _ (context : Context) (text : List ℕ) where
 
   -- ---- In a region
 
-  written_reads : (n : ℕ) (octets : List ℕ) → Written context text n octets → mic_number context text octets ≡ done n
+  written_reads : (n : ℕ) (octets : List ℕ) → Written context text n octets → mic_number context text octets ≡ Ok n
   written_reads n octets w = ap (mic_number context text) (sym w.as_written) ∙ token_read n w.number_fits
 
   pub only_one : (j k : ℕ) (octets : List ℕ) → Written context text j octets → Written context text k octets → j ≡ k
@@ -76,7 +76,7 @@ module _ (context : Context) (text : List ℕ) where
     abbrev found : Outcome ℕ
     found = mic_reading context text buf start n
 
-    written_found : start + n ≤ length buf → (k : ℕ) → Written context text k (region start n buf) → found ≡ done k
+    written_found : start + n ≤ length buf → (k : ℕ) → Written context text k (region start n buf) → found ≡ Ok k
     unfolding mic_reading require
     written_found h k w =
         let size : n ≡ 24 = sym (region_length buf start n h) ∙ ap length (sym w.as_written) ∙ mic_length_lem context text k in
@@ -90,7 +90,7 @@ module _ (context : Context) (text : List ℕ) where
           le-leb (start + n) (length buf) h,
         ) (written_reads k (region start n buf) w)
 
-    found_written : Octets buf → (k : ℕ) → found ≡ done k → (start + n ≤ length buf) × Written context text k (region start n buf)
+    found_written : Octets buf → (k : ℕ) → found ≡ Ok k → (start + n ≤ length buf) × Written context text k (region start n buf)
     unfolding mic_reading
     found_written bytes k e =
         let sized = require_done _ _ _ k e in
@@ -105,18 +105,13 @@ module _ (context : Context) (text : List ℕ) where
         (h, record { number_fits = read.0; text_most = most; as_written = read.1 })
 
     -- what the definition gives meets the demand
-    reads_exactly : Octets buf → {answer : Sequence} → answer ≡ sequence_answer found → ReadsExactly context text buf start n (sequence_refusal answer) (sequence_number answer)
+    pub reads_exactly : Octets buf → {answer : Outcome ℕ} → answer ≡ found → ReadsExactly context text buf start n (status_number answer) (number_found answer)
     reads_exactly bytes {answer} e =
         record {
           only_then = λ z.
-              let d = number_told found (ap sequence_refusal (sym e) ∙ z) in
+              let d = done_told found (ap status_number (sym e) ∙ z) in
               let w = found_written bytes d.0 d.1 in
-              (w.0, subst (λ (k : ℕ). Written context text k (region start n buf)) (sym (ap sequence_number (e ∙ ap sequence_answer d.1))) w.1);
-          always_then = λ h k w. let told = e ∙ ap sequence_answer (written_found h k w) in (ap sequence_refusal told, ap sequence_number told);
+              (w.0, subst (λ (k : ℕ). Written context text k (region start n buf)) (sym (ap number_found (e ∙ d.1))) w.1);
+          always_then = λ h k w. let told = e ∙ written_found h k w in (ap status_number told, ap number_found told);
           one_number = λ j k. only_one j k (region start n buf);
         }
-
-    -- the clauses of `mic_read`, of which the second follows from the first
-    pub exact_clauses : Octets buf → {answer : Sequence} → answer ≡ sequence_answer found
-        → (answer ≡ sequence_answer found) × ReadsExactly context text buf start n (sequence_refusal answer) (sequence_number answer)
-    exact_clauses bytes e = (e, reads_exactly bytes e)

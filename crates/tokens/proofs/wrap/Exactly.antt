@@ -7,39 +7,41 @@ use native.Mathlib.Omega.{arith}
 use lib.ListN.{length, get_or, take, drop, length-append, length-drop, take-append-drop}
 use lib.Seq.{take_at, drop_at, get_or_at, get_or-drop, length-take-le}
 use borrow.Author.Tests.{eqb-true, eq-eqb, leb-true, le-leb}
+use Rattle.tokens.specs.declared.answer.Refusal.{Refusal}
+use Rattle.std.specs.Prelude.{Ok, Result}
 use Rattle.primitives.specs.Octets.{Octets}
 use Rattle.primitives.specs.Rc4.{key_schedule}
 use Rattle.primitives.proofs.Laws.{apply_octets, apply_twice, schedule_octets}
-use Rattle.tokens.specs.Answer.{Outcome, done, require, and_then, unwrapped_number, unwrapped_sequence, unwrapped_sealed, unwrapped_length}
+use Rattle.tokens.specs.Answer.{Outcome, require, and_then, unwrapped_sequence, unwrapped_sealed, unwrapped_length, status_number}
 use Rattle.tokens.specs.Limits.{most_message, region, buffer_after}
 use Rattle.tokens.specs.Octets.{same}
 use Rattle.tokens.specs.Token.{sequence_numbers, sealing_key, front, header_in, checksum_in, number_in}
-use Rattle.tokens.specs.Wrap.{Parts, header, plain, wrap_checksum, under_seal, wrap_token, sealed_in, apart, verified, opened, wrap_opening, unwrapped_answer, Written, HandedBack, OpensExactly}
-use Rattle.tokens.specs.declared.answer.Refusal.TheVariants as Refusal
+use Rattle.tokens.specs.Wrap.{Parts, header, plain, wrap_checksum, under_seal, wrap_token, sealed_in, apart, verified, opened, wrap_opening, unwrapped, unwrapped_answer, Written, HandedBack, OpensExactly}
+use Rattle.tokens.specs.declared.answer.Refusal.TheVariants as refusal
 use Rattle.tokens.specs.declared.answer.Unwrapped.{Unwrapped}
 use Rattle.tokens.specs.declared.context.Context.{Context}
 use Rattle.tokens.proofs.Fronts.{front_header, front_checksum, front_rest, front_number, number_fits, front_back}
 use Rattle.tokens.proofs.Lengths.{wrap_header_length, wrap_checksum_length, seal_length, plain_length, wrap_length_lem}
 use Rattle.tokens.proofs.Lent.{octets_take, octets_drop, region_length, confounder_stands, body_stands}
 use Rattle.tokens.proofs.SameOctets.{same_true, same_self}
-use Rattle.tokens.proofs.Steps.{require_done, then_done, done_same, parts_told, within_bounds}
+use Rattle.tokens.proofs.Steps.{require_done, then_done, done_same, within_bounds, done_mapped}
 
 -- ---- Headers and texts
 
 -- the headers of sealed and clear tokens are told apart
-header_told : (sealed : Bool) (octets : List ℕ) → header_in octets ≡ header sealed → sealed_in octets ≡ done sealed
+header_told : (sealed : Bool) (octets : List ℕ) → header_in octets ≡ header sealed → sealed_in octets ≡ Ok sealed
 unfolding sealed_in header same require
 header_told true octets e = rw e
 header_told false octets e = rw e
 
 told : (h : List ℕ) (sealed : Bool) (b d : Bool) → same h (header true) ≡ b → same h (header false) ≡ d
-    → cond b (done true) (require d Refusal.Header (done false)) ≡ done sealed → h ≡ header sealed
+    → cond b (Ok true) (require d refusal.Header (Ok false)) ≡ Ok sealed → h ≡ header sealed
 unfolding require
 told h sealed true d eb ed e = same_true h (header true) eb ∙ ap header (done_same e)
 told h sealed false true eb ed e = same_true h (header false) ed ∙ ap header (done_same e)
 told h sealed false false eb ed e = cc
 
-told_header : (octets : List ℕ) (sealed : Bool) → sealed_in octets ≡ done sealed → header_in octets ≡ header sealed
+told_header : (octets : List ℕ) (sealed : Bool) → sealed_in octets ≡ Ok sealed → header_in octets ≡ header sealed
 unfolding sealed_in
 told_header octets sealed e = told (header_in octets) sealed (same (header_in octets) (header true)) (same (header_in octets) (header false)) refl refl e
 
@@ -110,7 +112,7 @@ module _ (p : Parts) (eight : length p.confounder ≡ 8) where
     abbrev size_sum : length sum ≡ 8
     size_sum = wrap_checksum_length context p.sealed (plain p)
 
-    pub token_opened : p.sequence < sequence_numbers → opened context (wrap_token context p) ≡ done p
+    pub token_opened : p.sequence < sequence_numbers → opened context (wrap_token context p) ≡ Ok p
     unfolding opened and_then verified require wrap_token
     token_opened fits =
         rw (
@@ -122,7 +124,7 @@ module _ (p : Parts) (eight : length p.confounder ≡ 8) where
           same_self sum,
           eq-eqb (get_or (plain p) (length (plain p) - 1) 0) 1 plain_last,
         )
-        (ap done apart_plain)
+        (ap Ok apart_plain)
 
 -- ---- What is opened is what the rule writes
 
@@ -133,13 +135,13 @@ fields_written : (context : Context) (octets : List ℕ) (p : Parts) {sealed : B
 unfolding wrap_token
 fields_written context octets p {sealed} {n} es en ep sum head back = rw (ep, es, en, ← sum, ← head, seal_twice context sealed n (drop 24 octets)) back
 
-module _ (context : Context) (octets : List ℕ) {p : Parts} (e : opened context octets ≡ done p) where
+module _ (context : Context) (octets : List ℕ) {p : Parts} (e : opened context octets ≡ Ok p) where
   -- what the steps gave
   record Steps : Type 0 where
     sealed : Bool
     number : ℕ
-    sealed_is : sealed_in octets ≡ done sealed
-    number_is : number_in context octets ≡ done number
+    sealed_is : sealed_in octets ≡ Ok sealed
+    number_is : number_in context octets ≡ Ok number
     sum_is : checksum_in octets ≡ wrap_checksum context sealed (under_seal context sealed number (drop 24 octets))
     last_is : get_or (under_seal context sealed number (drop 24 octets)) (length (under_seal context sealed number (drop 24 octets)) - 1) 0 ≡ 1
     parts_are : apart number sealed (under_seal context sealed number (drop 24 octets)) ≡ p
@@ -207,7 +209,7 @@ module _ (context : Context) (octets : List ℕ) {p : Parts} (e : opened context
 -- ---- In a region
 
 module _ (context : Context) where
-  written_opens : (p : Parts) (octets : List ℕ) → Written context p octets → opened context octets ≡ done p
+  written_opens : (p : Parts) (octets : List ℕ) → Written context p octets → opened context octets ≡ Ok p
   written_opens p octets w = ap (opened context) (sym w.as_written) ∙ token_opened p w.confounder_eight context w.number_fits
 
   pub only_one : (p q : Parts) (octets : List ℕ) → Written context p octets → Written context q octets → p ≡ q
@@ -220,14 +222,14 @@ module _ (context : Context) where
     abbrev found : Outcome Parts
     found = wrap_opening context buf start n
 
-    written_found : start + n ≤ length buf → (p : Parts) → Written context p (region start n buf) → found ≡ done p
+    written_found : start + n ≤ length buf → (p : Parts) → Written context p (region start n buf) → found ≡ Ok p
     unfolding wrap_opening require
     written_found h p w =
         let size : n ≡ 33 + length p.message = sym (region_length buf start n h) ∙ written_length p (region start n buf) w in
         rw (le-leb 33 n (omega arith), le-leb n (33 + most_message) (omega (arith, w.message_most)), le-leb (start + n) (length buf) h)
         (written_opens p (region start n buf) w)
 
-    found_written : Octets buf → (p : Parts) → found ≡ done p → (start + n ≤ length buf) × Written context p (region start n buf)
+    found_written : Octets buf → (p : Parts) → found ≡ Ok p → (start + n ≤ length buf) × Written context p (region start n buf)
     unfolding wrap_opening
     found_written bytes p e =
         let sized = require_done _ _ _ p e in
@@ -241,7 +243,7 @@ module _ (context : Context) where
         (h, opened_written context (region start n buf) fits.1 least octets most)
 
     handed_back : start + n ≤ length buf → (p : Parts) → Written context p (region start n buf)
-        → HandedBack p start 0 p.sequence p.sealed (length p.message) (buffer_after plain (start + 24) buf (done p))
+        → HandedBack p start 0 p.sequence p.sealed (length p.message) (buffer_after plain (start + 24) buf (Ok p))
     unfolding plain
     handed_back h p w =
         let size : n ≡ 33 + length p.message = sym (region_length buf start n h) ∙ written_length p (region start n buf) w in
@@ -258,19 +260,14 @@ module _ (context : Context) where
         }
 
     -- what the definition gives meets the demand
-    opens_exactly : Octets buf → {answer : Unwrapped} {after : List ℕ} → answer ≡ unwrapped_answer found → after ≡ buffer_after plain (start + 24) buf found
-        → OpensExactly context buf start n (unwrapped_number answer) (unwrapped_sequence answer) (unwrapped_sealed answer) (unwrapped_length answer) after
+    pub opens_exactly : Octets buf → {answer : Result Unwrapped Refusal} {after : List ℕ} → answer ≡ unwrapped_answer found → after ≡ buffer_after plain (start + 24) buf found
+        → OpensExactly context buf start n (status_number answer) (unwrapped_sequence answer) (unwrapped_sealed answer) (unwrapped_length answer) after
     opens_exactly bytes {answer} {after} ea eb =
         record {
           only_then = λ z.
-              let d = parts_told found (ap unwrapped_number (sym ea) ∙ z) in
+              let d = done_mapped unwrapped found (ap status_number (sym ea) ∙ z) in
               let w = found_written bytes d.0 d.1 in
               (w.0, (d.0, w.1));
           always_then = λ h p w. rw (ea, eb, written_found h p w) (handed_back h p w);
           one_set = λ p q. only_one p q (region start n buf);
         }
-
-    -- the clauses of `wrap_open`, of which the third follows from the others
-    pub exact_clauses : Octets buf → {answer : Unwrapped} {after : List ℕ} → answer ≡ unwrapped_answer found → after ≡ buffer_after plain (start + 24) buf found
-        → (answer ≡ unwrapped_answer found) × ((after ≡ buffer_after plain (start + 24) buf found) × OpensExactly context buf start n (unwrapped_number answer) (unwrapped_sequence answer) (unwrapped_sealed answer) (unwrapped_length answer) after)
-    exact_clauses bytes ea eb = (ea, (eb, opens_exactly bytes ea eb))

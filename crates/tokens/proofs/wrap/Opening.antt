@@ -8,68 +8,55 @@ use lib.Dec.{eqb}
 use lib.ListN.{length, get_or, take, drop, set, length-append, length-take, length-drop, drop_of_length-le}
 use lib.Seq.{drop_at, set_split, get_or-append-add}
 use borrow.Author.Tests.{eqb-true, eq-eqb, ne_eqb}
-use Rattle.tokens.specs.Answer.{Outcome, done, refused, require, and_then, tested, status_answer, sequence_answer}
+use Rattle.std.specs.Prelude.{⊤, Result, Ok, Err}
+use Rattle.tokens.specs.Answer.{require, and_then, tested, status_answer}
 use Rattle.tokens.specs.Limits.{buffer_after}
 use Rattle.tokens.specs.Octets.{same}
 use Rattle.tokens.specs.Token.{front, checksum_in, number_in}
-use Rattle.tokens.specs.Wrap.{parts, header, plain, wrap_checksum, under_seal, wrap_token, sealed_in, apart, verified, opened, unwrapped_answer, sealing_answer}
+use Rattle.tokens.specs.Wrap.{parts, header, plain, wrap_checksum, under_seal, wrap_token, sealed_in, apart, verified, opened, unwrapped_answer}
 use Rattle.tokens.specs.declared.answer.Refusal.{Refusal}
-use Rattle.tokens.specs.declared.answer.Sequence.TheVariants as sequence
-use Rattle.tokens.specs.declared.answer.Status.{Status}
-use Rattle.tokens.specs.declared.answer.Status.TheVariants.{Done, Refused}
-use Rattle.tokens.specs.declared.answer.Unwrapped.TheVariants as unwrapped
+use Rattle.tokens.specs.declared.answer.Refusal.TheVariants as refusal
 use Rattle.tokens.specs.declared.context.Context.{Context}
-use Rattle.tokens.specs.declared.wrap.Sealing.TheVariants as sealing
 use Rattle.tokens.proofs.Fronts.{header_alone, checksum_alone, number_alone}
 use Rattle.tokens.proofs.Lengths.{seal_length}
 use Rattle.tokens.proofs.Placing.{placed_all}
-use Rattle.tokens.proofs.Steps.{require_done, goes_on, stops, then_on, then_stops, was_done, was_refused, was_number, no_number}
+use Rattle.tokens.proofs.Steps.{require_done, goes_on, stops, then_on, then_stops, was_done, was_refused}
 use Rattle.tokens.proofs.wrap.Exactly.{plain_apart, seal_twice}
-
--- ---- The header
-
-was_sealed : (o : Outcome Bool) {b : Bool} → sealing_answer o ≡ sealing.Sealed b → o ≡ done b
-was_sealed (done a) e = cc
-was_sealed (refused r) e = cc
-
-not_sealed : (o : Outcome Bool) {q : Refusal} → sealing_answer o ≡ sealing.Refused q → o ≡ refused q
-not_sealed (done a) e = cc
-not_sealed (refused r) e = cc
 
 -- ---- The checksum and the pad
 
-module _ (context : Context) (sealed : Bool) (confounder body : List ℕ) (some : 1 ≤ length body) (sum : List ℕ) {expected : List ℕ} {s : Status}
-    (expected-is : expected ≡ wrap_checksum context sealed (confounder ++ body)) (s-is : s ≡ tested (same sum expected) Refusal.Checksum) where
+module _ (context : Context) (sealed : Bool) (confounder body : List ℕ) (some : 1 ≤ length body) (sum : List ℕ) {expected : List ℕ} {s : Result ⊤ Refusal}
+    (expected-is : expected ≡ wrap_checksum context sealed (confounder ++ body)) (s-is : s ≡ tested (same sum expected) refusal.Checksum) where
   abbrev test : Bool
   test = same sum (wrap_checksum context sealed (confounder ++ body))
 
-  test_is : s ≡ tested test Refusal.Checksum
-  test_is = s-is ∙ ap (λ (l : List ℕ). tested (same sum l) Refusal.Checksum) expected-is
+  test_is : s ≡ tested test refusal.Checksum
+  test_is = s-is ∙ ap (λ (l : List ℕ). tested (same sum l) refusal.Checksum) expected-is
 
   last_is : get_or (confounder ++ body) (length (confounder ++ body) - 1) 0 ≡ get_or body (length body - 1) 0
   last_is =
       let at : length (confounder ++ body) - 1 ≡ length confounder + (length body - 1) = omega (arith, length-append confounder body) in
       ap (λ (k : ℕ). get_or (confounder ++ body) k 0) at ∙ get_or-append-add confounder body (length body - 1) 0
 
-  pub checksum_refused : {q : Refusal} → s ≡ Refused q → s ≡ status_answer (verified context sealed sum (confounder ++ body))
+  pub checksum_refused : {q : Refusal} → s ≡ Err q → status_answer (verified context sealed sum (confounder ++ body)) ≡ Err q
   unfolding verified
-  checksum_refused d = d ∙ sym (ap status_answer (stops _ _ _ test_is d))
+  checksum_refused d = ap status_answer (stops _ _ _ test_is d)
 
-  passed : s ≡ Done → verified context sealed sum (confounder ++ body) ≡ require (eqb (get_or (confounder ++ body) (length (confounder ++ body) - 1) 0) 1) Refusal.Pad (done (confounder ++ body))
+  passed : s ≡ Ok tt → verified context sealed sum (confounder ++ body) ≡ require (eqb (get_or (confounder ++ body) (length (confounder ++ body) - 1) 0) 1) refusal.Pad (Ok (confounder ++ body))
   unfolding verified
   passed d = goes_on _ _ _ test_is d
 
-  pub pad_found : s ≡ Done → get_or body (length body - 1) 0 ≡ 1 → Done ≡ status_answer (verified context sealed sum (confounder ++ body))
+  pub pad_found : s ≡ Ok tt → get_or body (length body - 1) 0 ≡ 1 → Ok tt ≡ status_answer (verified context sealed sum (confounder ++ body))
   unfolding require
   pad_found d e = rw (passed d, eq-eqb (get_or (confounder ++ body) (length (confounder ++ body) - 1) 0) 1 (last_is ∙ e))
 
-  pub pad_refused : s ≡ Done → (get_or body (length body - 1) 0 ≡ 1 → ⊥) → Refused Refusal.Pad ≡ status_answer (verified context sealed sum (confounder ++ body))
+  pub pad_refused : s ≡ Ok tt → (get_or body (length body - 1) 0 ≡ 1 → ⊥) → Err refusal.Pad ≡ status_answer (verified context sealed sum (confounder ++ body))
   unfolding require
   pad_refused d ne = rw (passed d, ne_eqb (get_or (confounder ++ body) (length (confounder ++ body) - 1) 0) 1 (λ e. ne (sym last_is ∙ e)))
 
 -- a text that is verified is handed on, and ends with the pad
-verified_text : (context : Context) (sealed : Bool) (sum text : List ℕ) → status_answer (verified context sealed sum text) ≡ Done
-    → (verified context sealed sum text ≡ done text) × (get_or text (length text - 1) 0 ≡ 1)
+verified_text : (context : Context) (sealed : Bool) (sum text : List ℕ) → status_answer (verified context sealed sum text) ≡ Ok tt
+    → (verified context sealed sum text ≡ Ok text) × (get_or text (length text - 1) 0 ≡ 1)
 unfolding verified
 verified_text context sealed sum text e =
     let v = was_done _ e in
@@ -84,39 +71,39 @@ module _ (context : Context) (front text : List ℕ) (size : length front ≡ 24
   unfolding sealed_in
   sealed_alone = rw (header_alone front text size)
 
-  pub header_refused : {q : Refusal} → sealing_answer (sealed_in front) ≡ sealing.Refused q → opened context (front ++ text) ≡ refused q
+  pub header_refused : {q : Refusal} → sealed_in front ≡ Err q → opened context (front ++ text) ≡ Err q
   unfolding opened
-  header_refused e = then_stops _ (sealed_alone ∙ not_sealed _ e)
+  header_refused e = then_stops _ (sealed_alone ∙ e)
 
-  module _ {sealed : Bool} (is-sealed : sealing_answer (sealed_in front) ≡ sealing.Sealed sealed) where
-    pub number_refused : {q : Refusal} → sequence_answer (number_in context front) ≡ sequence.Refused q → opened context (front ++ text) ≡ refused q
+  module _ {sealed : Bool} (is-sealed : sealed_in front ≡ Ok sealed) where
+    pub number_refused : {q : Refusal} → number_in context front ≡ Err q → opened context (front ++ text) ≡ Err q
     unfolding opened
-    number_refused e = then_on _ (sealed_alone ∙ was_sealed _ is-sealed) ∙ then_stops _ (number_alone front text size context ∙ no_number _ e)
+    number_refused e = then_on _ (sealed_alone ∙ is-sealed) ∙ then_stops _ (number_alone front text size context ∙ e)
 
-    module _ {n : ℕ} (is_number : sequence_answer (number_in context front) ≡ sequence.Number n) {out : List ℕ} (out_is : out ≡ under_seal context sealed n text) where
-      opened_is : opened context (front ++ text) ≡ and_then (verified context sealed (checksum_in front) out) (λ (l : List ℕ). done (apart n sealed l))
+    module _ {n : ℕ} (is_number : number_in context front ≡ Ok n) {out : List ℕ} (out_is : out ≡ under_seal context sealed n text) where
+      opened_is : opened context (front ++ text) ≡ and_then (verified context sealed (checksum_in front) out) (λ (l : List ℕ). Ok (apart n sealed l))
       unfolding opened
       opened_is =
-          then_on _ (sealed_alone ∙ was_sealed _ is-sealed)
-          ∙ then_on _ (number_alone front text size context ∙ was_number _ is_number)
+          then_on _ (sealed_alone ∙ is-sealed)
+          ∙ then_on _ (number_alone front text size context ∙ is_number)
           ∙ rw (checksum_alone front text size, drop_at front text 24 size, ← out_is)
 
       out_length : length out ≡ length text
       out_length = ap length out_is ∙ seal_length context sealed n text
 
-      module _ {s : Status} (s-is : s ≡ status_answer (verified context sealed (checksum_in front) out)) where
-        pub text_refused : {q : Refusal} → s ≡ Refused q → opened context (front ++ text) ≡ refused q
+      module _ {s : Result ⊤ Refusal} (s-is : s ≡ status_answer (verified context sealed (checksum_in front) out)) where
+        pub text_refused : {q : Refusal} → s ≡ Err q → opened context (front ++ text) ≡ Err q
         text_refused d = opened_is ∙ then_stops _ (was_refused _ (sym s-is ∙ d))
 
         -- run under the seal again, what was refused is back
-        pub text_restored : {q : Refusal} {back : List ℕ} → s ≡ Refused q → back ≡ under_seal context sealed n out → back ≡ buffer_after plain 0 text (opened context (front ++ text))
+        pub text_restored : {q : Refusal} {back : List ℕ} → s ≡ Err q → back ≡ under_seal context sealed n out → back ≡ buffer_after plain 0 text (opened context (front ++ text))
         text_restored {q} {back} d e = rw (text_refused d) (e ∙ ap (under_seal context sealed n) out_is ∙ seal_twice context sealed n text)
 
-        module _ (d : s ≡ Done) where
-          text_opened : opened context (front ++ text) ≡ done (apart n sealed out)
+        module _ (d : s ≡ Ok tt) where
+          text_opened : opened context (front ++ text) ≡ Ok (apart n sealed out)
           text_opened = opened_is ∙ then_on _ (verified_text context sealed (checksum_in front) out (sym s-is ∙ d)).0
 
-          pub opened_answer : (l : ℕ) → length text ≡ 9 + l → unwrapped.Message n sealed l ≡ unwrapped_answer (opened context (front ++ text))
+          pub opened_answer : (l : ℕ) → length text ≡ 9 + l → Ok (record { sequence = n; sealed = sealed; length = l }) ≡ unwrapped_answer (opened context (front ++ text))
           opened_answer l e =
               let found : length (take (length out - 9) (drop 8 out)) ≡ l = simp (length-take, length-drop) (omega (arith, out_length)) in
               rw (text_opened, found)

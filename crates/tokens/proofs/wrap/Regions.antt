@@ -6,7 +6,9 @@ use Prim.Native.Nat.{ℕ, ◌+◌, ◌-◌, ◌≤◌}
 use native.Mathlib.Omega.{arith}
 use lib.ListN.{length, take, drop}
 use lib.Seq.{take-take}
-use Rattle.tokens.specs.Answer.{Outcome, done}
+use Rattle.tokens.specs.declared.answer.Refusal.{Refusal}
+use Rattle.std.specs.Prelude.{Ok, Result}
+use Rattle.tokens.specs.Answer.{Outcome}
 use Rattle.tokens.specs.Limits.{region, placed, buffer_after}
 use Rattle.tokens.specs.Wrap.{Parts, parts, plain, wrap_token, wrap_length, opened, unwrapped_answer}
 use Rattle.tokens.specs.declared.answer.Unwrapped.{Unwrapped}
@@ -51,13 +53,13 @@ module _ (context : Context) (buf : List ℕ) (start : ℕ) where
     abbrev o : Outcome Parts
     o = opened context (region start n buf)
 
-    fits : (q : Parts) → o ≡ done q → 24 + length (plain q) ≤ n
+    fits : (q : Parts) → o ≡ Ok q → 24 + length (plain q) ≤ n
     fits q h =
         let size = region_length buf start n inside in
         let long : 33 ≤ length (region start n buf) = omega arith in
         omega (arith, opened_length context (region start n buf) h long)
 
-    pub opened_answer : (k : ℕ) {r : Unwrapped} → k ≡ n → r ≡ unwrapped_answer (opened context (region start k buf)) → r ≡ unwrapped_answer o
+    pub opened_answer : (k : ℕ) {r : Result Unwrapped Refusal} → k ≡ n → r ≡ unwrapped_answer (opened context (region start k buf)) → r ≡ unwrapped_answer o
     opened_answer k e er = er ∙ ap (λ (m : ℕ). unwrapped_answer (opened context (region start m buf))) e
 
     pub opened_buffer_lem : (k : ℕ) {after : List ℕ} → k ≡ n → after ≡ buffer_after plain 24 (region start k buf) (opened context (region start k buf))

@@ -7,6 +7,6 @@ pub returns-then-same : goal.returns-then-same
 unfolding tested
 returns-then-same c = rw (sym c.same.ensures ∙ c.if-same.true)
 
-pub returns : goal.returns
+pub returns-else-same : goal.returns-else-same
 unfolding tested
-returns c = rw (sym c.same.ensures ∙ c.if-same.false)
+returns-else-same c = rw (sym c.same.ensures ∙ c.if-same.false)

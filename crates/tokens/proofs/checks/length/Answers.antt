@@ -1,21 +1,13 @@
 -- Each test as the definition makes it.
-use borrow.Author.Tests.{le-leb, lt-leb}
+use Rattle.std.proofs.lemmas.Bool.Decides.{nat_tests}
 use native.Mathlib.Omega.{arith}
 use Rattle.tokens.specs.Answer.{tested}
 use Rattle.tokens.proofs.checks.length.Goals as goal
 
-pub returns-then-n-least : goal.returns-then-n-least
+pub returns-then-n-most : goal.returns-then-n-most
 unfolding tested
-returns-then-n-least c = rw (lt-leb c.args.least c.args.n c.if-n-least.true)
+returns-then-n-most c = grind (arith, nat_tests)
 
-pub returns-then-most-n : goal.returns-then-most-n
+pub returns-else-least-n : goal.returns-else-least-n
 unfolding tested
-returns-then-most-n c =
-    let a = c.args in
-    rw (le-leb a.least a.n (omega arith), lt-leb a.n a.most c.if-most-n.true)
-
-pub returns : goal.returns
-unfolding tested
-returns c =
-    let a = c.args in
-    rw (le-leb a.least a.n (omega arith), le-leb a.n a.most (omega arith))
+returns-else-least-n c = grind (arith, nat_tests)

@@ -1,18 +1,13 @@
--- The two tests together are the definition's, which takes the sum as a whole number.
-use Prim.Native.Nat.{◌+◌}
-use borrow.Author.Tests.{le-leb, lt-leb}
+-- Each test as the definition makes it.
+use Rattle.std.proofs.lemmas.Bool.Decides.{nat_tests}
 use native.Mathlib.Omega.{arith}
 use Rattle.tokens.specs.Answer.{tested}
 use Rattle.tokens.proofs.checks.region.Goals as goal
 
-pub returns-then-end-start : goal.returns-then-end-start
+pub returns-then-n-end : goal.returns-then-n-end
 unfolding tested
-returns-then-end-start c = let a = c.args in rw (lt-leb (a.start + a.n) a.end (omega arith))
+returns-then-n-end c = grind (arith, nat_tests)
 
-pub returns-then-end-start-2 : goal.returns-then-end-start-2
+pub returns-else-start-end : goal.returns-else-start-end
 unfolding tested
-returns-then-end-start-2 c = let a = c.args in rw (lt-leb (a.start + a.n) a.end (omega arith))
-
-pub returns : goal.returns
-unfolding tested
-returns c = let a = c.args in rw (le-leb (a.start + a.n) a.end (omega arith))
+returns-else-start-end c = grind (arith, nat_tests)

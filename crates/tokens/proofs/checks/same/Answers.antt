@@ -1,55 +1,49 @@
--- The difference gathered so far is zero exactly where the octets so far are the same.
-use mathlib.Core.Path.{◌≡◌, refl, ap, ap₂, sym, ◌∙◌}
+-- One pair more, until the lists end.
+use mathlib.Core.Path.{◌≡◌, sym, ap, ap₂, refl, ◌∙◌}
 use mathlib.Core.Bool.{Bool, ◌&&◌}
-use Prim.Native.Nat.{ℕ}
-use native.Mathlib.Numerals.{add-one}
+use mathlib.Core.List.{[], ◌∷◌, ◌++◌}
+use Prim.Native.Nat.{ℕ, suc}
 use lib.Dec.{eqb}
-use lib.ListN.{length, get_or, take}
+use lib.ListN.{length, take, get_or, length-append}
 use lib.Seq.{take-length}
+use native.Mathlib.Omega.{arith}
+use borrow.Author.Rules.{rules}
+use Rattle.std.proofs.lemmas.Slice.Zip.{zip_turn, zip_end}
 use Rattle.tokens.specs.Octets.{same}
 use Rattle.tokens.proofs.SameOctets.{not_same, same_more, no_difference}
-use borrow.Author.Rules.{rules}
-use native.Mathlib.Omega.{arith}
 use Rattle.tokens.proofs.checks.same.Goals as goal
 
 pub returns-then-a-b : goal.returns-then-a-b
 returns-then-a-b c = sym (not_same _ _ (λ e. c.if-a-b.true (ap length e)))
 
-pub loop-i-init : goal.loop-i-init
+pub loop-x-init : goal.loop-x-init
 unfolding same
-loop-i-init c = (omega arith, search rules, refl)
+loop-x-init c = refl
 
-pub bounds-a-i : goal.bounds-a-i
-bounds-a-i c = omega arith
-
-pub bounds-b-i : goal.bounds-b-i
-bounds-b-i c = omega arith
-
-pub overflow_add-i : goal.overflow_add-i
-overflow_add-i c = omega arith
-
-pub loop-i-smaller : goal.loop-i-smaller
-loop-i-smaller c = omega arith
-
-pub loop-i-preserved : goal.loop-i-preserved
-loop-i-preserved c =
+pub loop-x-preserved : goal.loop-x-preserved
+loop-x-preserved c =
     let a = c.args.a.now in
     let b = c.args.b.now in
-    let i = c.loop-i.i in
-    let d = c.loop-i.difference in (
-      omega arith,
-      search rules,
-      ap (λ (k : ℕ). same (take k a) (take k b)) (add-one i)
-          ∙ same_more a b i (search rules) (omega arith)
-          ∙ ap (λ (t : Bool). t && eqb (get_or a i 0) (get_or b i 0)) c.loop-i.invariant.2
-          ∙ sym (no_difference d (get_or a i 0) (get_or b i 0)),
-    )
+    let i = length c.loop-x.yielded in
+    let d = c.loop-x.difference in
+    let from = c.into_iter-x-iterator.result in
+    let first : from.a.rest.now ≡ a = search rules in
+    let second : from.b.rest.now ≡ b = search rules in
+    let turn = zip_turn a b c.loop-x.yielded from c.loop-x.x-iterator c.next.new.self c.next.result first second c.loop-x.yielded_by (c.in-Some.x, c.in-Some.y) c.in-Some.is c.next.ensures.steps in
+    let more : length (c.loop-x.yielded ++ ((c.in-Some.x, c.in-Some.y) ∷ [])) ≡ suc i = length-append c.loop-x.yielded _ ∙ omega arith in
+    rw (more, turn.2 0, turn.3 0)
+    (same_more a b i c.if-a-b.false turn.0
+    ∙ ap (λ (t : Bool). t && eqb (get_or a i 0) (get_or b i 0)) c.loop-x.invariant
+    ∙ sym (no_difference d (get_or a i 0) (get_or b i 0)))
 
 pub returns : goal.returns
 returns c =
     let a = c.args.a.now in
     let b = c.args.b.now in
-    let i = c.loop-i.i in
-    let all : i ≡ length a = omega arith in
-    let all-b : i ≡ length b = omega arith in
-    sym (sym (ap₂ same (ap (λ (k : ℕ). take k a) all ∙ take-length a) (ap (λ (k : ℕ). take k b) all-b ∙ take-length b)) ∙ c.loop-i.invariant.2)
+    let from = c.into_iter-x-iterator.result in
+    let first : from.a.rest.now ≡ a = search rules in
+    let second : from.b.rest.now ≡ b = search rules in
+    let end = zip_end a b c.loop-x.yielded from c.loop-x.x-iterator c.next.new.self c.next.result first second c.loop-x.yielded_by c.in-None.is c.next.ensures.steps in
+    let all : length c.loop-x.yielded ≡ length a = omega arith in
+    let all-b : length c.loop-x.yielded ≡ length b = omega arith in
+    sym (sym (ap₂ same (ap (λ (k : ℕ). take k a) all ∙ take-length a) (ap (λ (k : ℕ). take k b) all-b ∙ take-length b)) ∙ c.loop-x.invariant)

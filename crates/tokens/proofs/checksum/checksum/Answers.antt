@@ -1,31 +1,26 @@
--- The length's refusal, the usage's, or the checksum.
-use mathlib.Core.Path.{ap, ◌∙◌}
+-- The refusals of the length and the usage, or the checksum for the usage's T.
+use mathlib.Core.Path.{ap, sym, ◌∙◌}
 use mathlib.Core.List.{List}
 use Prim.Native.Nat.{ℕ}
+use Rattle.std.specs.Prelude.{Ok}
 use Rattle.tokens.specs.Checksum as Spec
-use Rattle.tokens.proofs.Steps.{goes_on, stops, digest_refused, digest_done, named_status, named_type}
+use Rattle.tokens.proofs.Steps.{goes_on, stops, exits, named_stops, named_on}
 use Rattle.tokens.proofs.checksum.checksum.Goals as goal
 
-pub returns-in_default : goal.returns-in_default
+pub returns-in_err-length : goal.returns-in_err-length
 unfolding Spec.keyed_checksum
-returns-in_default c =
-    let told = c.in_default.is in
-    digest_refused told (stops _ _ _ c.length-sized.ensures told) c.digest.ensures
+returns-in_err-length c = exits _ _ c.from_residual.ensures.1 (stops _ _ _ c.length.ensures c.in_err-length.was)
 
-pub returns-in_default-status : goal.returns-in_default-status
+pub returns-in_err-usage : goal.returns-in_err-usage
 unfolding Spec.keyed_checksum
-returns-in_default-status c =
-    let told = c.in_default-status.is in
-    digest_refused told
-    (goes_on _ _ _ c.length-sized.ensures c.in-Done.is
-    ∙ stops _ _ _ (named_status _ c.new-named.ensures) told)
-    c.digest-in_default-status.ensures
+returns-in_err-usage c =
+    exits _ _ c.from_residual-in_err-usage.ensures.1
+    (goes_on _ _ _ c.length.ensures c.in_ok-length.was ∙ named_stops c.args.usage _ c.try_from.ensures c.in_err-usage.was)
 
 pub returns : goal.returns
 unfolding Spec.keyed_checksum
 returns c =
-    let usage = c.new-named.ensures in
     let a = c.args in
-    digest_done c.in-Done-status.is
-    (c.checksum_of.ensures ∙ ap (λ (t : List ℕ). Spec.checksum a.key t a.«data».now) (c.t-t.ensures ∙ named_type _ usage c.in-Done-status.is))
-    (goes_on _ _ _ c.length-sized.ensures c.in-Done.is ∙ goes_on _ _ _ (named_status _ usage) c.in-Done-status.is)
+    let named = named_on a.usage _ c.try_from.ensures c.in_ok-usage.was in
+    let sum = c.checksum_of.ensures ∙ ap (λ (t : List ℕ). Spec.checksum a.key t a.«data».now) (c.t.ensures ∙ named.1) in
+    ap Ok sum ∙ sym (goes_on _ _ _ c.length.ensures c.in_ok-length.was ∙ named.0)

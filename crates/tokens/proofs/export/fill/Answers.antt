@@ -1,16 +1,13 @@
--- What is placed is what the definition places for export.
-use mathlib.Core.Path.{◌≡◌, ◌∙◌}
+-- Nothing, or the nine octets in their place.
+use mathlib.Core.Path.{refl}
 use Rattle.tokens.specs.Strength.{export_fill}
-use Rattle.tokens.specs.declared.strength.Strength.TheVariants.{Export}
+use Rattle.tokens.proofs.Placing.{put_placed}
 use Rattle.tokens.proofs.export.fill.Goals as goal
+
+pub returns-in-Export : goal.returns-in-Export
+unfolding export_fill
+returns-in-Export c = rw c.in-Export.is (put_placed 7 9 c.args.key _ _ c.copy_from_slice.ensures.after refl)
 
 pub returns-in_default : goal.returns-in_default
 unfolding export_fill
 returns-in_default c = rw c.in_default.is
-
-pub returns : goal.returns
-unfolding export_fill
-returns c =
-    let key = c.args.key in
-    let filled : _ ≡ export_fill Export key = c.place.ensures in
-    filled ∙ rw c.in-Export.is

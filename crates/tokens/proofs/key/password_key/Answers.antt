@@ -2,46 +2,37 @@
 use mathlib.Core.Path.{◌≡◌, ap, sym, ◌∙◌}
 use Prim.Native.Nat.{◌*◌, ◌≤◌}
 use lib.ListN.{length, take}
-use lib.Seq.{length-take-le, take_at}
+use lib.Seq.{take_at, length-take-le}
+use Rattle.std.specs.Prelude.{Ok}
 use Rattle.primitives.specs.Hash.{absorb, begun, finished}
-use Rattle.primitives.specs.declared.hash.Hash.{Hash}
 use Rattle.primitives.specs.declared.hash.Algorithm.TheVariants.{Md4 as is_md4}
+use Rattle.primitives.specs.declared.hash.Hash.{Hash}
 use Rattle.primitives.proofs.Laws.{hash_digest}
 use Rattle.tokens.specs.Key as Spec
-use Rattle.tokens.proofs.Steps.{goes_on, stops, digest_refused, digest_done, test_held, within_bounds}
+use Rattle.tokens.proofs.Steps.{goes_on, stops, exits, bounds}
 use Rattle.tokens.proofs.Unicode.{unicode_length}
 use borrow.Author.Rules.{rules}
 use native.Mathlib.Omega.{arith}
 use Rattle.tokens.proofs.key.password_key.Goals as goal
 
-pub returns-in_default : goal.returns-in_default
+pub returns-in_err-length : goal.returns-in_err-length
 unfolding Spec.password_key
-returns-in_default c =
-    let told = c.in_default.is in
-    digest_refused told (stops _ _ _ c.length-status.ensures told) c.digest.ensures
+returns-in_err-length c = exits _ _ c.from_residual.ensures.1 (stops _ _ _ c.length.ensures c.in_err-length.was)
 
 pub unicode-octets-requires : goal.unicode-octets-requires
-unicode-octets-requires c =
-    let n = length c.args.units.now in
-    (within_bounds 0 256 n (test_held _ _ (sym c.length-status.ensures ∙ c.in-Done.is))).1
-
-pub overflow_mul-octets : goal.overflow_mul-octets
-overflow_mul-octets c =
-    let most : length c.args.units.now ≤ 256 = let n = length c.args.units.now in
-    (within_bounds 0 256 n (test_held _ _ (sym c.length-status.ensures ∙ c.in-Done.is))).1 in
-    omega (arith, most)
+unicode-octets-requires c = (bounds c.in_ok-length.was 0 256 (length c.args.units.now) c.length.ensures).1
 
 pub slice_bounds-octets-end : goal.slice_bounds-octets-end
 slice_bounds-octets-end c =
-    let most : length c.args.units.now ≤ 256 = let n = length c.args.units.now in
-    (within_bounds 0 256 n (test_held _ _ (sym c.length-status.ensures ∙ c.in-Done.is))).1 in
-    let size : length c.unicode-octets.result ≡ 512 = search rules in omega (arith, most)
+    let most = (bounds c.in_ok-length.was 0 256 (length c.args.units.now) c.length.ensures).1 in
+    let size : length c.unicode-octets.result ≡ 512 = search rules in
+    omega (arith, most)
 
 pub slice_bounds-update-end : goal.slice_bounds-update-end
 slice_bounds-update-end c =
-    let most : length c.args.units.now ≤ 256 = let n = length c.args.units.now in
-    (within_bounds 0 256 n (test_held _ _ (sym c.length-status.ensures ∙ c.in-Done.is))).1 in
-    let fits : 2 * length c.args.units.now ≤ length c.unicode-octets.result = let size : length c.unicode-octets.result ≡ 512 = search rules in omega (arith, most) in
+    let most = (bounds c.in_ok-length.was 0 256 (length c.args.units.now) c.length.ensures).1 in
+    let size : length c.unicode-octets.result ≡ 512 = search rules in
+    let fits : 2 * length c.args.units.now ≤ length c.unicode-octets.result = omega (arith, most) in
     sym (length-take-le _ _ fits)
 
 pub returns : goal.returns
@@ -51,8 +42,7 @@ returns c =
     let octets = c.unicode-octets in
     let front : take (2 * length units) octets.result ≡ Spec.unicode units
     = ap (take (2 * length units)) octets.ensures ∙ take_at (Spec.unicode units) _ (2 * length units) (unicode_length units) in
-    digest_done c.in-Done.is
-    (c.finish.ensures
+    let digest = c.finish.ensures
     ∙ ap finished (c.update.ensures ∙ ap (λ (h : Hash). absorb h (take (2 * length units) octets.result)) c.new.ensures ∙ ap (absorb (begun is_md4)) front)
-    ∙ hash_digest is_md4 (Spec.unicode units))
-    (goes_on _ _ _ c.length-status.ensures c.in-Done.is)
+    ∙ hash_digest is_md4 (Spec.unicode units) in
+    ap Ok digest ∙ sym (goes_on _ _ _ c.length.ensures c.in_ok-length.was)

@@ -1,81 +1,59 @@
 -- The refusals of the lengths and the region, or what the region's octets give.
 use mathlib.Core.Path.{◌≡◌, ap, sym, ◌∙◌}
-use mathlib.Core.List.{List}
-use Prim.Native.Nat.{ℕ, ◌+◌, ◌≤◌}
-use lib.ListN.{length}
-use borrow.Author.Tests.{leb-true}
+use Prim.Native.Nat.{ℕ, ◌+◌}
 use Rattle.primitives.specs.Octets.{Octets}
-use Rattle.tokens.specs.Answer.{sequence_answer}
 use Rattle.tokens.specs.Limits.{region}
 use Rattle.tokens.specs.Mic as Spec
-use Rattle.tokens.proofs.Steps.{goes_on, stops, is_refused, test_held, within_bounds}
-use Rattle.tokens.proofs.mic.Exactly.{exact_clauses}
+use Rattle.tokens.proofs.Steps.{goes_on, stops, exits, bounds, fits}
+use Rattle.tokens.proofs.mic.Exactly.{reads_exactly}
+use borrow.Author.Rules.{rules}
 use native.Mathlib.Omega.{arith}
 use Rattle.tokens.proofs.mic.mic_read.Goals as goal
 
-pub returns-in_default : goal.returns-in_default
+pub returns-in_err-length : goal.returns-in_err-length
 unfolding Spec.mic_reading
-returns-in_default c =
-    let bytes : Octets c.args.buf.now = λ i. (c.shared_slice_known-2-1.given i).fits in
-    let told = c.by.ensures in
+returns-in_err-length c =
     let a = c.args in
-    let all = exact_clauses a.context a.«data».now a.buf.now a.start a.len bytes
-    (ap sequence_answer (sym (stops _ _ _ c.length-sized.ensures told))) in
-    record { answer = all.0; exact = all.1 }
+    let bytes : Octets a.buf.now = λ i. search rules in
+    let answer = exits _ _ c.from_residual.ensures.1 (stops _ _ _ c.length.ensures c.in_err-length.was) in
+    record { answer = answer; exact = reads_exactly a.context a.«data».now a.buf.now a.start a.len bytes answer }
 
-pub returns-in_default-whole : goal.returns-in_default-whole
+pub returns-in_err-length-2 : goal.returns-in_err-length-2
 unfolding Spec.mic_reading
-returns-in_default-whole c =
-    let bytes : Octets c.args.buf.now = λ i. (c.shared_slice_known-2-1.given i).fits in
-    let told = c.by-in_default-whole.ensures in
+returns-in_err-length-2 c =
     let a = c.args in
-    let all = exact_clauses a.context a.«data».now a.buf.now a.start a.len bytes
-    (ap sequence_answer (sym (goes_on _ _ _ c.length-sized.ensures c.in-Done.is ∙ stops _ _ _ c.length-whole.ensures told))) in
-    record { answer = all.0; exact = all.1 }
+    let bytes : Octets a.buf.now = λ i. search rules in
+    let answer = exits _ _ c.from_residual-in_err-length-2.ensures.1 (goes_on _ _ _ c.length.ensures c.in_ok-length.was ∙ stops _ _ _ c.length-2.ensures c.in_err-length-2.was) in
+    record { answer = answer; exact = reads_exactly a.context a.«data».now a.buf.now a.start a.len bytes answer }
 
-pub returns-in_default-placed : goal.returns-in_default-placed
+pub returns-in_err-region : goal.returns-in_err-region
 unfolding Spec.mic_reading
-returns-in_default-placed c =
-    let bytes : Octets c.args.buf.now = λ i. (c.shared_slice_known-2-1.given i).fits in
-    let told = c.by-in_default-placed.ensures in
+returns-in_err-region c =
     let a = c.args in
-    let all = exact_clauses a.context a.«data».now a.buf.now a.start a.len bytes
-    (ap sequence_answer (sym (goes_on _ _ _ c.length-sized.ensures c.in-Done.is
-    ∙ goes_on _ _ _ c.length-whole.ensures c.in-Done-whole.is
-    ∙ stops _ _ _ c.region-placed.ensures told))) in
-    record { answer = all.0; exact = all.1 }
+    let bytes : Octets a.buf.now = λ i. search rules in
+    let answer = exits _ _ c.from_residual-in_err-region.ensures.1
+    (goes_on _ _ _ c.length.ensures c.in_ok-length.was
+    ∙ goes_on _ _ _ c.length-2.ensures c.in_ok-length-2.was
+    ∙ stops _ _ _ c.region.ensures c.in_err-region.was) in
+    record { answer = answer; exact = reads_exactly a.context a.«data».now a.buf.now a.start a.len bytes answer }
 
-pub twenty_four-requires : goal.twenty_four-requires
-twenty_four-requires c =
-    let twenty-four : c.args.len ≡ 24 = let bounds = within_bounds 24 24 c.args.len (test_held _ _ (sym c.length-whole.ensures ∙ c.in-Done-whole.is)) in
-    omega (arith, bounds.0, bounds.1) in
-    let inside : let a = c.args in a.start + a.len ≤ length a.buf.now = leb-true _ _ (test_held _ _ (sym c.region-placed.ensures ∙ c.in-Done-placed.is)) in
-    omega (arith, inside, twenty-four)
+pub array_at-requires : goal.array_at-requires
+array_at-requires c =
+    let whole = bounds c.in_ok-length-2.was 24 24 c.args.len c.length-2.ensures in
+    let inside = fits c.in_ok-region.was (c.args.start + c.args.len) _ c.region.ensures in
+    omega (arith, inside, whole.0, whole.1)
 
 pub returns : goal.returns
 unfolding Spec.mic_reading
 returns c =
-    let bytes : Octets c.args.buf.now = λ i. (c.shared_slice_known-2-1.given i).fits in
-    let twenty-four : c.args.len ≡ 24 = let bounds = within_bounds 24 24 c.args.len (test_held _ _ (sym c.length-whole.ensures ∙ c.in-Done-whole.is)) in
-    omega (arith, bounds.0, bounds.1) in
     let a = c.args in
-    let size = twenty-four in
-    let octets : c.twenty_four.result ≡ region a.start a.len a.buf.now
-    = c.twenty_four.ensures ∙ ap (λ (n : ℕ). region a.start n a.buf.now) (sym size) in
-    let all = exact_clauses a.context a.«data».now a.buf.now a.start a.len bytes
-    (c.mic_number.ensures
-    ∙ ap (λ (l : List ℕ). sequence_answer (Spec.mic_number a.context a.«data».now l)) octets
-    ∙ sym (ap sequence_answer
-    (goes_on _ _ _ c.length-sized.ensures c.in-Done.is
-    ∙ goes_on _ _ _ c.length-whole.ensures c.in-Done-whole.is
-    ∙ goes_on _ _ _ c.region-placed.ensures c.in-Done-placed.is))) in
-    record { answer = all.0; exact = all.1 }
-
-pub by-requires : goal.by-requires
-by-requires c = is_refused c.in_default.is
-
-pub by-requires-in_default-whole : goal.by-requires-in_default-whole
-by-requires-in_default-whole c = is_refused c.in_default-whole.is
-
-pub by-requires-in_default-placed : goal.by-requires-in_default-placed
-by-requires-in_default-placed c = is_refused c.in_default-placed.is
+    let bytes : Octets a.buf.now = λ i. search rules in
+    let whole = bounds c.in_ok-length-2.was 24 24 a.len c.length-2.ensures in
+    let size : a.len ≡ 24 = omega (arith, whole.0, whole.1) in
+    let octets = c.array_at.ensures ∙ ap (λ (n : ℕ). region a.start n a.buf.now) (sym size) in
+    let answer = c.mic_number.ensures
+    ∙ ap (Spec.mic_number a.context a.«data».now) octets
+    ∙ sym (goes_on _ _ _ c.length.ensures c.in_ok-length.was
+    ∙ goes_on _ _ _ c.length-2.ensures c.in_ok-length-2.was
+    ∙ goes_on _ _ _ c.region.ensures c.in_ok-region.was) in
+    record { answer = answer; exact = reads_exactly a.context a.«data».now a.buf.now a.start a.len bytes answer }

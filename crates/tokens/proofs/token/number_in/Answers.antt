@@ -1,37 +1,31 @@
--- Kseq, SND_SEQ under it, and the test of its direction octets.
-use mathlib.Core.Path.{◌≡◌, ap, ap₂, ◌∙◌}
-use mathlib.Core.List.{List}
+-- The field decrypted, its direction octets compared, and its number.
+use mathlib.Core.Path.{◌≡◌, sym, ap, ◌∙◌}
 use Prim.Native.Nat.{ℕ}
-use lib.ListN.{length, take, drop, length-drop}
-use lib.Seq.{take_all}
-use Rattle.primitives.specs.Rc4.{rc4}
-use Rattle.tokens.specs.Answer.{require}
-use Rattle.tokens.specs.Octets.{same}
-use Rattle.tokens.specs.Token as Spec
+use lib.ListN.{length}
 use borrow.Author.Rules.{rules}
-use native.Mathlib.Omega.{arith}
+use Rattle.std.specs.Prelude.{Ok}
+use Rattle.tokens.specs.Answer.{Outcome}
+use Rattle.tokens.specs.Token as Spec
+use Rattle.tokens.proofs.Fronts.{field_run, compared}
+use Rattle.tokens.proofs.Steps.{goes_on, stops, exits}
 use Rattle.tokens.proofs.token.number_in.Goals as goal
 
-pub returns-then-same : goal.returns-then-same
-unfolding Spec.field_in Spec.number_in require
-returns-then-same c =
-    let field_is : let a = c.args in c.eight-field.result ≡ Spec.field_in a.context a.front = let a = c.args in
-    c.eight-field.ensures
-    ∙ ap₂ (λ (k l : List ℕ). rc4 k l) (c.sequence_key-key.ensures ∙ ap (Spec.sequence_key a.context) c.checksum_in.ensures) c.eight.ensures in
-    let test_is : let a = c.args in c.same.result ≡ same (drop 4 (Spec.field_in a.context a.front)) (Spec.direction a.context.sender) = let field = c.eight-field.result in
-    let eight : length field ≡ 8 = search rules in
-    let all : take 4 (drop 4 field) ≡ drop 4 field = take_all 4 (drop 4 field) (rw length-drop (omega arith)) in
-    c.same.ensures ∙ ap₂ same (all ∙ ap (drop 4) field_is) c.direction-expected.ensures in
-    rw (← test_is, c.if-same.true, c.number_of.ensures, field_is)
+pub returns-in_err-equal : goal.returns-in_err-equal
+unfolding Spec.number_in
+returns-in_err-equal c =
+    let a = c.args in
+    let eight : length c.eight-field.result ≡ 8 = search rules in
+    let key = c.sequence_key-key.ensures ∙ ap (Spec.sequence_key a.context) c.checksum_in.ensures in
+    let test = compared a.context a.front c.array_at.ensures key c.eight-field.ensures c.direction.result eight c.direction.ensures c.equal.ensures in
+    exits _ _ c.from_residual.ensures.1 (stops _ _ _ test c.in_err-equal.was)
 
 pub returns : goal.returns
-unfolding Spec.field_in Spec.number_in require
+unfolding Spec.number_in
 returns c =
-    let field_is : let a = c.args in c.eight-field.result ≡ Spec.field_in a.context a.front = let a = c.args in
-    c.eight-field.ensures
-    ∙ ap₂ (λ (k l : List ℕ). rc4 k l) (c.sequence_key-key.ensures ∙ ap (Spec.sequence_key a.context) c.checksum_in.ensures) c.eight.ensures in
-    let test_is : let a = c.args in c.same.result ≡ same (drop 4 (Spec.field_in a.context a.front)) (Spec.direction a.context.sender) = let field = c.eight-field.result in
-    let eight : length field ≡ 8 = search rules in
-    let all : take 4 (drop 4 field) ≡ drop 4 field = take_all 4 (drop 4 field) (rw length-drop (omega arith)) in
-    c.same.ensures ∙ ap₂ same (all ∙ ap (drop 4) field_is) c.direction-expected.ensures in
-    rw (← test_is, c.if-same.false)
+    let a = c.args in
+    let eight : length c.eight-field.result ≡ 8 = search rules in
+    let key = c.sequence_key-key.ensures ∙ ap (Spec.sequence_key a.context) c.checksum_in.ensures in
+    let test = compared a.context a.front c.array_at.ensures key c.eight-field.ensures c.direction.result eight c.direction.ensures c.equal.ensures in
+    let field = field_run a.context a.front c.array_at.ensures key c.eight-field.ensures in
+    let number : ◌≡◌ {A = Outcome ℕ} (Ok c.number_of.result) (Ok (Spec.number_of (Spec.field_in a.context a.front))) = rw (c.number_of.ensures, field) in
+    number ∙ sym (goes_on _ _ _ test c.in_ok-equal.was)

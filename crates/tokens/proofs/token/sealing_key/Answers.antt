@@ -8,4 +8,4 @@ pub returns : goal.returns
 unfolding sealing_key
 returns c =
     let a = c.args in
-    c.of.ensures ∙ ap₂ hmac (c.salted_key.ensures ∙ ap (salted_key a.context.strength) c.local_key.ensures) c.sequence_octets-number.ensures
+    c.of.ensures ∙ ap₂ hmac (c.salted_key.ensures ∙ ap (salted_key a.context.strength) c.local_key.ensures) c.sequence_octets.ensures

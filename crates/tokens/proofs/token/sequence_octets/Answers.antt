@@ -1,8 +1,7 @@
--- The four octets as the definition has them.
-use mathlib.Core.Path.{refl}
+-- The four octets, the highest first.
 use Rattle.tokens.specs.Token.{sequence_octets}
 use Rattle.tokens.proofs.token.sequence_octets.Goals as goal
 
 pub returns : goal.returns
 unfolding sequence_octets
-returns c = refl
+returns c = c.to_be_bytes.ensures

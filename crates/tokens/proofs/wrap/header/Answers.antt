@@ -7,6 +7,6 @@ pub returns-then-sealed : goal.returns-then-sealed
 unfolding Spec.header
 returns-then-sealed c = search rules
 
-pub returns : goal.returns
+pub returns-else-sealed : goal.returns-else-sealed
 unfolding Spec.header
-returns c = search rules
+returns-else-sealed c = search rules

@@ -3,89 +3,63 @@ use mathlib.Core.Path.{◌≡◌, ap, sym, ◌∙◌}
 use mathlib.Core.List.{List, ◌++◌}
 use Prim.Native.Nat.{ℕ, ◌+◌}
 use lib.ListN.{length, length-append}
-use Rattle.tokens.specs.Answer.{status_answer, sequence_answer, sequence_status}
-use Rattle.tokens.specs.Token.{checksum_in, number_in}
+use Rattle.tokens.specs.Answer.{status_answer}
 use Rattle.tokens.specs.Wrap as Spec
-use Rattle.tokens.specs.declared.answer.Sequence.TheVariants as sequence
-use Rattle.tokens.specs.declared.wrap.Sealing.TheVariants as sealing
-use Rattle.tokens.proofs.Steps.{is_refused, same_refusal, buffer_refused}
+use Rattle.tokens.proofs.Steps.{exits, buffer_refused}
 use Rattle.tokens.proofs.wrap.Opening.{header_refused, number_refused, text_refused, text_restored, opened_answer, opened_octets}
 use borrow.Author.Rules.{rules}
 use native.Mathlib.Omega.{arith}
 use Rattle.tokens.proofs.wrap.open_parts.Goals as goal
 
-pub returns-in_default : goal.returns-in_default
-returns-in_default c =
-    let sizes : (length c.args.front ≡ 24) × (length c.args.confounder ≡ 8) = (search rules, search rules) in
-    let told = c.in_default.is in
+pub returns-in_err-sealed : goal.returns-in_err-sealed
+returns-in_err-sealed c =
     let a = c.args in
-    let refused = header_refused a.context a.front (a.confounder ++ a.body.now) sizes.0 (sym c.sealed_in-sealing.ensures ∙ told) in
+    let size : length a.front ≡ 24 = search rules in
+    let refused = header_refused a.context a.front (a.confounder.now ++ a.body.now) size (sym c.sealed_in.ensures ∙ c.in_err-sealed.was) in
     record {
-      answer = ap Spec.unwrapped_answer (sym (same_refusal (c.sealing_status.ensures ∙ ap Spec.sealing_status told) c.by.ensures refused));
+      answer = exits _ _ c.from_residual.ensures.1 (ap Spec.unwrapped_answer refused);
       octets = buffer_refused Spec.plain _ _ refused;
     }
 
-pub returns-in_default-numbered : goal.returns-in_default-numbered
-returns-in_default-numbered c =
-    let sizes : (length c.args.front ≡ 24) × (length c.args.confounder ≡ 8) = (search rules, search rules) in
-    let is_sealed : Spec.sealing_answer (Spec.sealed_in c.args.front) ≡ sealing.Sealed c.in-Sealed.sealed = sym c.sealed_in-sealing.ensures ∙ c.in-Sealed.is in
-    let told = c.in_default-numbered.is in
+pub returns-in_err-sequence : goal.returns-in_err-sequence
+returns-in_err-sequence c =
     let a = c.args in
-    let refused = number_refused a.context a.front (a.confounder ++ a.body.now) sizes.0 is_sealed (sym c.number_in-numbered.ensures ∙ told) in
+    let size : length a.front ≡ 24 = search rules in
+    let sealed = sym c.sealed_in.ensures ∙ c.in_ok-sealed.was in
+    let refused = number_refused a.context a.front (a.confounder.now ++ a.body.now) size sealed (sym c.number_in.ensures ∙ c.in_err-sequence.was) in
     record {
-      answer = ap Spec.unwrapped_answer (sym (same_refusal (c.sequence_status.ensures ∙ ap sequence_status told) c.by-in_default-numbered.ensures refused));
+      answer = exits _ _ c.from_residual-in_err-sequence.ensures.1 (ap Spec.unwrapped_answer refused);
       octets = buffer_refused Spec.plain _ _ refused;
     }
 
-pub returns-in_default-status : goal.returns-in_default-status
-returns-in_default-status c =
-    let sizes : (length c.args.front ≡ 24) × (length c.args.confounder ≡ 8) = (search rules, search rules) in
-    let is_sealed : Spec.sealing_answer (Spec.sealed_in c.args.front) ≡ sealing.Sealed c.in-Sealed.sealed = sym c.sealed_in-sealing.ensures ∙ c.in-Sealed.is in
-    let is_number : let a = c.args in sequence_answer (number_in a.context a.front) ≡ sequence.Number c.in-Number.sequence = sym c.number_in-numbered.ensures ∙ c.in-Number.is in
-    let verified_is : let a = c.args in
-    c.verify-status.result ≡ status_answer (Spec.verified a.context c.in-Sealed.sealed (checksum_in a.front) (c.under_seal-plain.result ++ c.under_seal-plain.new.body)) = let a = c.args in
-    let out = c.under_seal-plain.result ++ c.under_seal-plain.new.body in
-    c.verify-status.ensures ∙ ap (λ (sum : List ℕ). status_answer (Spec.verified a.context c.in-Sealed.sealed sum out)) c.checksum_in.ensures in
-    let told = c.by-in_default-status.ensures in
+pub returns-in-Ok : goal.returns-in-Ok
+returns-in-Ok c =
     let a = c.args in
-    let text = a.confounder ++ a.body.now in
-    let size = sizes.0 in
-    let sealed = is_sealed in
-    let number = is_number in
-    let out = c.under_seal-plain.ensures in
-    let refused = text_refused a.context a.front text size sealed number out verified_is told in
+    let size : length a.front ≡ 24 = search rules in
+    let eight : length a.confounder.now ≡ 8 = search rules in
+    let text = a.confounder.now ++ a.body.now in
+    let sealed = sym c.sealed_in.ensures ∙ c.in_ok-sealed.was in
+    let number = sym c.number_in.ensures ∙ c.in_ok-sequence.was in
+    let out = c.under_seal.new.confounder ++ c.under_seal.new.body in
+    let verified = c.verify.ensures ∙ ap (λ (sum : List ℕ). status_answer (Spec.verified a.context c.in_ok-sealed.sealed sum out)) c.checksum_in.ensures in
+    let whole : length text ≡ 8 + length a.body.now = length-append a.confounder.now a.body.now ∙ omega (arith, eight) in
+    record {
+      answer = opened_answer a.context a.front text size sealed number c.under_seal.ensures verified c.in-Ok.is _ (omega (arith, c.requires, c.under_seal.auto.body));
+      octets = opened_octets a.context a.front text size sealed number c.under_seal.ensures verified c.in-Ok.is (omega (arith, c.requires));
+    }
+
+pub returns-in-Err : goal.returns-in-Err
+returns-in-Err c =
+    let a = c.args in
+    let size : length a.front ≡ 24 = search rules in
+    let eight : length a.confounder.now ≡ 8 = search rules in
+    let text = a.confounder.now ++ a.body.now in
+    let sealed = sym c.sealed_in.ensures ∙ c.in_ok-sealed.was in
+    let number = sym c.number_in.ensures ∙ c.in_ok-sequence.was in
+    let out = c.under_seal.new.confounder ++ c.under_seal.new.body in
+    let verified = c.verify.ensures ∙ ap (λ (sum : List ℕ). status_answer (Spec.verified a.context c.in_ok-sealed.sealed sum out)) c.checksum_in.ensures in
+    let refused = text_refused a.context a.front text size sealed number c.under_seal.ensures verified c.in-Err.is in
     record {
       answer = ap Spec.unwrapped_answer (sym refused);
-      octets = text_restored a.context a.front text size sealed number out verified_is told c.under_seal-restored.ensures;
+      octets = text_restored a.context a.front text size sealed number c.under_seal.ensures verified c.in-Err.is c.under_seal-in-Err.ensures;
     }
-
-pub returns : goal.returns
-returns c =
-    let sizes : (length c.args.front ≡ 24) × (length c.args.confounder ≡ 8) = (search rules, search rules) in
-    let is_sealed : Spec.sealing_answer (Spec.sealed_in c.args.front) ≡ sealing.Sealed c.in-Sealed.sealed = sym c.sealed_in-sealing.ensures ∙ c.in-Sealed.is in
-    let is_number : let a = c.args in sequence_answer (number_in a.context a.front) ≡ sequence.Number c.in-Number.sequence = sym c.number_in-numbered.ensures ∙ c.in-Number.is in
-    let verified_is : let a = c.args in
-    c.verify-status.result ≡ status_answer (Spec.verified a.context c.in-Sealed.sealed (checksum_in a.front) (c.under_seal-plain.result ++ c.under_seal-plain.new.body)) = let a = c.args in
-    let out = c.under_seal-plain.result ++ c.under_seal-plain.new.body in
-    c.verify-status.ensures ∙ ap (λ (sum : List ℕ). status_answer (Spec.verified a.context c.in-Sealed.sealed sum out)) c.checksum_in.ensures in
-    let told = c.in-Done.is in
-    let a = c.args in
-    let text = a.confounder ++ a.body.now in
-    let size = sizes in
-    let sealed = is_sealed in
-    let number = is_number in
-    let out = c.under_seal-plain.ensures in
-    let whole : length text ≡ 8 + length a.body.now = length-append a.confounder a.body.now ∙ omega (arith, size.1) in
-    record {
-      answer = opened_answer a.context a.front text size.0 sealed number out verified_is told _ (omega (arith, c.requires, c.under_seal-plain.auto.body));
-      octets = opened_octets a.context a.front text size.0 sealed number out verified_is told (omega (arith, c.requires));
-    }
-
-pub by-requires : goal.by-requires
-by-requires c = is_refused (c.sealing_status.ensures ∙ ap Spec.sealing_status c.in_default.is)
-
-pub by-requires-in_default-numbered : goal.by-requires-in_default-numbered
-by-requires-in_default-numbered c = is_refused (c.sequence_status.ensures ∙ ap sequence_status c.in_default-numbered.is)
-
-pub by-requires-in_default-status : goal.by-requires-in_default-status
-by-requires-in_default-status c = is_refused c.in_default-status.is

@@ -10,22 +10,21 @@ use Rattle.tokens.proofs.wrap.open_token.Goals as goal
 
 pub place-requires : goal.place-requires
 place-requires c =
-    let sized : length c.open_parts-opened.result.confounder ≡ 8 = search rules in
+    let size : length c.open_parts-answer.new.confounder ≡ 8 = search rules in
     let long : 32 ≤ length c.args.region.now = omega (arith, c.requires) in
-    let size = sized in
-    front_fits 24 c.args.region.now c.open_parts-opened.new.body long (length c.open_parts-opened.result.confounder) 24 (omega arith)
+    front_fits 24 c.args.region.now c.open_parts-answer.new.body long (length c.open_parts-answer.new.confounder) 24 (omega arith)
 
 pub returns : goal.returns
 returns c =
-    let sized : length c.open_parts-opened.result.confounder ≡ 8 = search rules in
+    let size : length c.open_parts-answer.new.confounder ≡ 8 = search rules in
     let long : 32 ≤ length c.args.region.now = omega (arith, c.requires) in
     let a = c.args in
     let region = a.region.now in
-    let front = c.twenty_four-front.ensures in
-    let came = c.eight-came.ensures in
+    let front = c.array_at-front.ensures in
+    let came = c.array_at-confounder.ensures in
     record {
-      answer = fields_answer 24 region front came (opened a.context) unwrapped_answer c.open_parts-opened.ensures.answer;
+      answer = fields_answer 24 region front came (opened a.context) unwrapped_answer c.open_parts-answer.ensures.answer;
       octets = c.place.ensures
-          ∙ confounder_placed 24 region c.open_parts-opened.new.body long c.open_parts-opened.result.confounder sized
-          ∙ fields_after 24 region front came (opened a.context) plain c.open_parts-opened.ensures.octets;
+          ∙ confounder_placed 24 region c.open_parts-answer.new.body long c.open_parts-answer.new.confounder size
+          ∙ fields_after 24 region front came (opened a.context) plain c.open_parts-answer.ensures.octets;
     }

@@ -10,8 +10,8 @@ pub returns-then-sealed : goal.returns-then-sealed
 unfolding Spec.under_seal
 returns-then-sealed c =
     let a = c.args in
-    c.run.ensures ∙ ap (λ (k : List ℕ). rc4 k (a.confounder ++ a.body.now)) c.sealing_key.ensures ∙ rw c.if-sealed.true
+    c.run.ensures ∙ ap (λ (k : List ℕ). rc4 k (a.confounder.now ++ a.body.now)) c.sealing_key.ensures ∙ rw c.if-sealed.true
 
-pub returns : goal.returns
+pub returns-else-sealed : goal.returns-else-sealed
 unfolding Spec.under_seal
-returns c = rw c.if-sealed.false
+returns-else-sealed c = rw c.if-sealed.false

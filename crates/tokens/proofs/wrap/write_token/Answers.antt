@@ -20,28 +20,26 @@ message region least =
 
 pub place-requires : goal.place-requires
 place-requires c =
-    let sizes : (length c.write_parts-leading.result.front ≡ 24) × (length c.write_parts-leading.result.confounder ≡ 8) = (search rules, search rules) in
+    let size : length c.write_parts-front.result ≡ 24 = search rules in
     let long : 32 ≤ length c.args.region.now = omega (arith, c.requires) in
-    let size = sizes.0 in
-    front_fits 24 c.args.region.now c.write_parts-leading.new.body long (length c.write_parts-leading.result.front) 0 (omega arith)
+    front_fits 24 c.args.region.now c.write_parts-front.new.body long (length c.write_parts-front.result) 0 (omega arith)
 
 pub place-requires-2 : goal.place-requires-2
 place-requires-2 c =
-    let sizes : (length c.write_parts-leading.result.front ≡ 24) × (length c.write_parts-leading.result.confounder ≡ 8) = (search rules, search rules) in
+    let size : length c.write_parts-front.new.confounder ≡ 8 = search rules in
     let long : 32 ≤ length c.args.region.now = omega (arith, c.requires) in
-    let size = sizes.1 in
-    let fits = front_fits 24 c.args.region.now c.write_parts-leading.new.body long 8 24 (omega arith) in
+    let fits = front_fits 24 c.args.region.now c.write_parts-front.new.body long 8 24 (omega arith) in
     omega (arith, c.place.auto.buf)
 
 pub returns : goal.returns
 returns c =
-    let sizes : (length c.write_parts-leading.result.front ≡ 24) × (length c.write_parts-leading.result.confounder ≡ 8) = (search rules, search rules) in
+    let front : length c.write_parts-front.result ≡ 24 = search rules in
+    let eight : length c.write_parts-front.new.confounder ≡ 8 = search rules in
     let long : 32 ≤ length c.args.region.now = omega (arith, c.requires) in
     let a = c.args in
-    let leading = c.write_parts-leading.result in
-    let size = sizes in
+    let written = c.write_parts-front in
     c.place-2.ensures
-    ∙ ap (placed 24 leading.confounder) c.place.ensures
-    ∙ front_placed 24 a.region.now c.write_parts-leading.new.body long leading.front leading.confounder size.0 size.1
-    ∙ c.write_parts-leading.ensures
+    ∙ ap (placed 24 written.new.confounder) c.place.ensures
+    ∙ front_placed 24 a.region.now written.new.body long written.result written.new.confounder front eight
+    ∙ written.ensures
     ∙ ap (λ (l : List ℕ). wrap_token a.context (parts a.sequence a.sealed a.confounder l)) (message a.region.now c.requires)

@@ -1,4 +1,4 @@
--- The four fields, of which the role is the other one.
+-- The fields, of which the sender or the role may be the other side.
 use Rattle.tokens.specs.Session.{peer}
 use Rattle.tokens.proofs.session.Session.peer.Goals as goal
 

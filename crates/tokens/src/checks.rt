@@ -47,9 +47,5 @@ pub fn same(a: &[u8], b: &[u8]) -> bool
 pub fn equal(given: &[u8], expected: &[u8], refusal: Refusal) -> Result<(), Refusal>
     ensures { result ≡ tested (Spec.same given.now expected.now) refusal }
 {
-    if same(given, expected) {
-        Ok(())
-    } else {
-        Err(refusal)
-    }
+    same(given, expected).then_some(()).ok_or(refusal)
 }

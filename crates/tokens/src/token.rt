@@ -62,7 +62,8 @@ pub fn begin_checksum(t: [u8; 4], header: [u8; 8]) -> Hash
 pub fn finish_checksum(key: [u8; 16], hash: Hash) -> [u8; 8]
     ensures { result ≡ take 8 (hmac (signature_key key) (finished hash)) }
 {
-    let sum = mac::of(checksum::signature_key(key), &hash.finish());
+    let digest = hash.finish();
+    let sum = mac::of(checksum::signature_key(key), &digest);
     octets::array_at(&sum, 0)
 }
 

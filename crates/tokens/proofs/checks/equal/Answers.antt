@@ -1,12 +1,19 @@
 -- The test as the definition makes it.
-use mathlib.Core.Path.{sym, ◌∙◌}
+use mathlib.Core.Path.{◌≡◌, refl, ap, ◌∙◌}
+use mathlib.Core.Bool.{Bool, true, false}
+use Rattle.std.specs.Prelude.{⊤, Option, Ok, Err}
+use Rattle.std.specs.Bool.{then_some}
+use Rattle.std.specs.Option.{ok_or}
 use Rattle.tokens.specs.Answer.{tested}
+use Rattle.tokens.specs.declared.answer.Refusal.{Refusal}
 use Rattle.tokens.proofs.checks.equal.Goals as goal
 
-pub returns-then-same : goal.returns-then-same
+told : (b : Bool) (r : Refusal) → ok_or (then_some b tt) r ≡ tested b r
 unfolding tested
-returns-then-same c = rw (sym c.same.ensures ∙ c.if-same.true)
+told true r = refl
+told false r = refl
 
-pub returns-else-same : goal.returns-else-same
-unfolding tested
-returns-else-same c = rw (sym c.same.ensures ∙ c.if-same.false)
+pub returns : goal.returns
+returns c =
+    let r = c.args.refusal in
+    c.ok_or.ensures.value ∙ ap (λ (o : Option ⊤). ok_or o r) (c.then_some.ensures ∙ ap (λ (b : Bool). then_some b tt) c.same.ensures) ∙ told _ r

@@ -218,9 +218,6 @@ module _ (octets : List ℕ) (bound : length octets < 18446744073709551616) (som
     whole : octets ≡ tag ∷ (der_length n ++ rest)
     whole = begins ∙ ap (λ (l : List ℕ). tag ∷ l) e
 
-    pub sizes : length octets ≡ 1 + w + length rest
-    sizes = ap length whole ∙ ap suc (length-append (der_length n) rest) ∙ omega arith
-
     rest_is : from w (from 1 octets) ≡ rest
     rest_is =
         take_all (length (from 1 octets) - w) (drop w (from 1 octets)) (rw length-drop (omega arith))

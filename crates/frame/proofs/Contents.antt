@@ -1,20 +1,21 @@
 -- The length at the front of some octets: each answer, from the tests that lead there.
+use Rattle.std.specs.Prelude.{Some, None}
 use mathlib.Core.Path.{◌≡◌, refl, sym, ap, ap₂, ◌∙◌}
 use mathlib.Core.Bool.{Bool, true, false, cond}
 use mathlib.Core.List.{List, [], ◌∷◌, ◌++◌}
+use mathlib.Core.Logic.{◌⊎◌, inl, inr}
 use Prim.Native.Nat.{ℕ, zero, suc, ◌+◌, ◌*◌, ◌-◌, ◌/◌, ◌%◌, ◌≤◌, ◌<◌}
 use native.Mathlib.Omega.{arith}
 use native.Mathlib.Numerals.{one-add}
-use lib.Dec.{ltb}
+use lib.Dec.{eqb, ltb}
 use lib.ListN.{length, get_or, take, drop, replicate, length-append, length-drop, length-replicate, take-append-drop, get_or-append}
-use lib.Seq.{length-take-le, get_or-take, get_or-drop}
-use borrow.Author.Tests.{ltb-true, ltb-false}
+use lib.Seq.{length-take-le, get_or-take}
+use borrow.Author.Tests.{eqb-true, eq-eqb, ltb-true, ltb-false}
 use Rattle.primitives.specs.Octets.{Octets}
 use Rattle.tokens.proofs.Laws.{region_octets}
-use Rattle.frame.specs.Length.{octet_count, high_first, der_length, value_after, up_to, Used, LengthIs, short_form}
+use Rattle.frame.specs.Length.{octet_count, high_first, der_length, value_after, up_to, Used, LengthIs, short_form, least_digit}
 use Rattle.frame.specs.declared.length.Contents.TheVariants.{Counted, Cut, Incomplete, Wrong}
-use Rattle.frame.specs.declared.length.Value.TheVariants.{Number, Above}
-use Rattle.frame.proofs.Lengths.{count_zero, count_more, count_one, count_after, high_length, high_value, value_least, was_within, was_above, der_short, der_two, der_long, first_and_rest}
+use Rattle.frame.proofs.Lengths.{count_zero, count_more, count_one, count_after, high_length, high_value, value_least, was_within, was_above, der_short, der_two, der_long}
 
 -- ---- The first octets of a length
 
@@ -99,84 +100,115 @@ module _ (least : ℕ) (octets : List ℕ) (w n : ℕ) (there : w ≤ length oct
   pub cut : length octets < w + n → Used n → LengthIs least octets (Cut w)
   cut h used = (n, drop w octets, octets_are, width_is, form.1, omega (arith, length-drop w octets), used)
 
-begins : (octets : List ℕ) (k : ℕ) → 0 < length octets → take (1 + k) octets ≡ get_or octets 0 0 ∷ take k (drop 1 octets)
-begins octets k some = rw (one-add k) (ap (take (suc k)) (first_and_rest octets some))
+module _ (least first : ℕ) (rest : List ℕ) (short : first < 128) where
+  short_stands : ltb first least ≡ false → (take 1 (first ∷ rest) ≡ der_length first) × (least ≤ first)
+  short_stands e = (sym (der_short first short), ltb-false first least e)
 
-module _ (least first : ℕ) (octets : List ℕ) (some : 0 < length octets) (first_is : first ≡ get_or octets 0 0) (short : first < 128) where
-  short_stands : ltb first least ≡ false → (take 1 octets ≡ der_length first) × (least ≤ first)
-  short_stands e = (begins octets 0 some ∙ sym (der_short first short ∙ ap (λ (x : ℕ). x ∷ []) first_is), ltb-false first least e)
-
-  pub short_form_lem : LengthIs least octets (short_form least first (length octets - 1))
-  short_form_lem = decided (ltb first least) (ltb (length octets - 1) first) refl refl
+  pub short_form_lem : LengthIs least (first ∷ rest) (short_form least first (length rest))
+  short_form_lem = decided (ltb first least) (ltb (length rest) first) refl refl
     where
-      decided : (t u : Bool) → ltb first least ≡ t → ltb (length octets - 1) first ≡ u → LengthIs least octets (cond t Wrong (cond u (Cut 1) (Counted 1 first)))
+      decided : (t u : Bool) → ltb first least ≡ t → ltb (length rest) first ≡ u → LengthIs least (first ∷ rest) (cond t Wrong (cond u (Cut 1) (Counted 1 first)))
       decided true u et eu =
           let low : first < least = ltb-true first least et in
-          wrong least octets some (λ h k. omega arith) (λ y same h k m u. omega arith)
-      decided false true et eu = cut least octets 1 first some (short_stands et) (omega (arith, ltb-true (length octets - 1) first eu)) (rw (der_short first short) (omega arith))
-      decided false false et eu = counted least octets 1 first some (short_stands et) (omega (arith, ltb-false (length octets - 1) first eu))
+          wrong least (first ∷ rest) (omega arith) (λ h k. omega arith) (λ y same h k m u. omega arith)
+      decided false true et eu = cut least (first ∷ rest) 1 first (omega arith) (short_stands et) (omega (arith, ltb-true (length rest) first eu)) (rw (der_short first short) (omega arith))
+      decided false false et eu = counted least (first ∷ rest) 1 first (omega arith) (short_stands et) (omega (arith, ltb-false (length rest) first eu))
+
+-- 80 leaves the end open, and ff is set aside
+pub no_count : (least : ℕ) (octets : List ℕ) → 0 < length octets → (get_or octets 0 0 ≡ 128) ⊎ (get_or octets 0 0 ≡ 255) → LengthIs least octets Wrong
+no_count least octets some (inl e) = wrong least octets some (λ h k. omega arith) (λ y same h k m u. omega arith)
+no_count least octets some (inr e) = wrong least octets some (λ h k. omega arith) (λ y same h k m u. omega arith)
+
+-- a first digit below the least one is not that of the shortest form
+least_one : (count : ℕ) → count ≡ 1 → least_digit count ≡ 128
+least_one count e = rw (eq-eqb count 1 e) refl
+
+least_some : (count : ℕ) → 0 < least_digit count
+least_some count = decided (eqb count 1)
+  where
+    decided : (t : Bool) → 0 < cond t 128 1
+    decided true = omega arith
+    decided false = omega arith
+
+pub low_digit : (least count : ℕ) (rest : List ℕ) → 0 < length rest → get_or rest 0 0 < least_digit count → LengthIs least ((128 + count) ∷ rest) Wrong
+low_digit least count rest some low = decided (eqb count 1) refl
+  where
+    decided : (t : Bool) → eqb count 1 ≡ t → LengthIs least ((128 + count) ∷ rest) Wrong
+    decided true e =
+        let below : get_or rest 0 0 < cond true 128 1 = rw e at low in
+        wrong least ((128 + count) ∷ rest) (omega arith) (λ h k. omega arith) (λ y same h k m u. omega (arith, below, same (omega arith), m (omega (arith, eqb-true count 1 e))))
+    decided false e =
+        let below : get_or rest 0 0 < cond false 128 1 = rw e at low in
+        wrong least ((128 + count) ∷ rest) (omega arith) (λ h k. omega arith) (λ y same h k m u. omega (arith, below, same (omega arith)))
 
 -- the tests that a long form passes, with all its digits
-pub record Long (least first : ℕ) (octets : List ℕ) : Type 0 where
+pub record Long (least count : ℕ) (rest : List ℕ) : Type 0 where
   pub low : least ≤ 128
-  pub bytes : Octets octets
-  pub first_is : first ≡ get_or octets 0 0
-  pub long : 128 < first
-  pub used : first < 255
-  pub there : first - 128 < length octets
-  pub digit : 0 < get_or octets 1 0
-  pub one : first - 128 ≡ 1 → 128 ≤ get_or octets 1 0
+  pub bytes : Octets rest
+  pub some : 0 < count
+  pub used : count < 127
+  pub there : count ≤ length rest
+  pub digit : least_digit count ≤ get_or rest 0 0
 
-module _ (least first : ℕ) (octets : List ℕ) (form : Long least first octets) where
-  -- the digits as they are lent
+pub long_form : (least count : ℕ) (rest : List ℕ) → (least ≤ 128) × (0 < count) × (count < 127) → Octets rest → count ≤ length rest → (0 < length rest → least_digit count ≤ get_or rest 0 0) → Long least count rest
+long_form least count rest limits bytes there digit =
+    record { low = limits.0; bytes = bytes; some = limits.1; used = limits.2; there = there; digit = digit (omega arith) }
+
+module _ (least count : ℕ) (rest : List ℕ) (form : Long least count rest) where
+  abbrev octets : List ℕ
+  octets = (128 + count) ∷ rest
+
   abbrev digits : List ℕ
-  digits = take (1 + (first - 128) - 1) (drop 1 octets)
+  digits = take count rest
 
-  long_stands : (take (1 + (first - 128)) octets ≡ der_length (value_after 0 digits)) × (least ≤ value_after 0 digits)
+  begins : take (1 + count) octets ≡ (128 + count) ∷ digits
+  begins = rw (one-add count) refl
+
+  long_stands : (take (1 + count) octets ≡ der_length (value_after 0 digits)) × (least ≤ value_after 0 digits)
   long_stands =
-      let count : ℕ = first - 128 in
-      let lent : 1 + count - 1 ≡ count = omega arith in
-      let size : length digits ≡ count = length-take-le (1 + count - 1) (drop 1 octets) (rw length-drop (omega arith)) ∙ lent in
-      let second : get_or digits 0 0 ≡ get_or octets 1 0 = get_or-take (1 + count - 1) (drop 1 octets) 0 0 (omega arith) ∙ get_or-drop 1 octets 0 0 in
-      let said = digits_form digits (region_octets 1 (1 + count - 1) octets form.bytes) (omega arith) (λ e. omega (arith, form.one (sym size ∙ e))) in
-      (begins octets count (omega arith) ∙ ap₂ (λ (x : ℕ) (k : ℕ). x ∷ take k (drop 1 octets)) (omega arith) (sym lent) ∙ sym said.1, omega (arith, said.0))
+      let size : length digits ≡ count = length-take-le count rest form.there in
+      let first : get_or digits 0 0 ≡ get_or rest 0 0 = get_or-take count rest 0 0 form.some in
+      let said = digits_form digits (region_octets 0 count rest form.bytes) (omega (arith, least_some count, form.digit)) (λ e. omega (arith, form.digit, least_one count (sym size ∙ e))) in
+      (begins ∙ ap (λ (k : ℕ). (128 + k) ∷ digits) (sym size) ∙ sym said.1, omega (arith, said.0, form.low))
 
-  pub long_cut : up_to (length octets - 1 - (first - 128)) (value_after 0 digits) ≡ Above → LengthIs least octets (Cut (1 + (first - 128)))
+  pub long_cut : up_to (length rest - count) (value_after 0 digits) ≡ None → LengthIs least octets (Cut (1 + count))
   long_cut e =
-      let past : length octets - 1 - (first - 128) < value_after 0 digits = was_above _ _ e in
-      let head : get_or (der_length (value_after 0 digits)) 0 0 ≡ first = ap (λ (l : List ℕ). get_or l 0 0) (sym long_stands.0) ∙ get_or-take (1 + (first - 128)) octets 0 0 (omega arith) ∙ sym form.first_is in
-      cut least octets _ _ (omega arith) long_stands (omega arith) (omega (arith, form.used))
+      let past : length rest - count < value_after 0 digits = was_above _ _ e in
+      let head : get_or (der_length (value_after 0 digits)) 0 0 ≡ 128 + count = ap (λ (l : List ℕ). get_or l 0 0) (sym long_stands.0 ∙ begins) in
+      cut least octets _ _ (omega (arith, form.there)) long_stands (omega (arith, form.there)) (omega (arith, form.used))
 
-  pub long_counted : (n : ℕ) → up_to (length octets - 1 - (first - 128)) (value_after 0 digits) ≡ Number n → LengthIs least octets (Counted (1 + (first - 128)) n)
+  pub long_counted : (n : ℕ) → up_to (length rest - count) (value_after 0 digits) ≡ Some n → LengthIs least octets (Counted (1 + count) n)
   long_counted n e =
-      let said : (value_after 0 digits ≤ length octets - 1 - (first - 128)) × (value_after 0 digits ≡ n) = was_within _ _ n e in
-      counted least octets _ n (omega arith) (rw said.1 at long_stands) (omega arith)
+      let said : (value_after 0 digits ≤ length rest - count) × (value_after 0 digits ≡ n) = was_within _ _ n e in
+      counted least octets _ n (omega (arith, form.there)) (rw said.1 at long_stands) (omega (arith, form.there))
 
 -- ---- A length that is cut off
 
-fill_octets : (digits : List ℕ) (m : ℕ) → Octets digits → Octets (digits ++ replicate m 255)
+fill_octets : (xs : List ℕ) (m : ℕ) → Octets xs → Octets (xs ++ replicate m 255)
 fill_octets [] zero bytes i = omega arith
 fill_octets [] (suc m) bytes zero = omega arith
 fill_octets [] (suc m) bytes (suc i) = fill_octets [] m bytes i
-fill_octets (x ∷ digits) m bytes zero = bytes 0
-fill_octets (x ∷ digits) m bytes (suc i) = fill_octets digits m (λ j. bytes (suc j)) i
+fill_octets (x ∷ xs) m bytes zero = bytes 0
+fill_octets (x ∷ xs) m bytes (suc i) = fill_octets xs m (λ j. bytes (suc j)) i
 
-fill_first : (digits : List ℕ) (m : ℕ) → 0 < m → (0 < length digits → 0 < get_or digits 0 0) → (0 < get_or (digits ++ replicate m 255) 0 0) × (length (digits ++ replicate m 255) ≡ 1 → 128 ≤ get_or (digits ++ replicate m 255) 0 0)
+fill_first : (xs : List ℕ) (m : ℕ) → 0 < m → (0 < length xs → 0 < get_or xs 0 0) → (0 < get_or (xs ++ replicate m 255) 0 0) × (length (xs ++ replicate m 255) ≡ 1 → 128 ≤ get_or (xs ++ replicate m 255) 0 0)
 fill_first [] zero h some = absurd (omega arith)
 fill_first [] (suc m) h some = omega arith
-fill_first (x ∷ digits) m h some = (some (omega arith), λ e. absurd (omega (arith, length-append digits (replicate m 255), length-replicate {A = ℕ} m 255)))
+fill_first (x ∷ xs) m h some = (some (omega arith), λ e. absurd (omega (arith, length-append xs (replicate m 255), length-replicate {A = ℕ} m 255)))
 
--- more digits make it whole
-pub begun : (least : ℕ) (octets : List ℕ) → least ≤ 128 → Octets octets → (0 < length octets → 128 + length octets ≤ get_or octets 0 0) → (1 < length octets → 0 < get_or octets 1 0)
-    → get_or octets 0 0 < 255 → LengthIs least octets Incomplete
-begun least [] low bytes first digit used =
+-- before its first octet
+pub none_begun : (least : ℕ) (octets : List ℕ) → least ≤ 128 → length octets ≡ 0 → LengthIs least octets Incomplete
+none_begun least [] low e =
     let form = der_two 128 (omega arith) (omega arith) in
     (128, der_length 128, refl, low, omega (arith, ap length form), omega (arith, ap (λ (l : List ℕ). get_or l 0 0) form))
-begun least (x ∷ after) low bytes first digit used =
-    let cut_off : 128 + suc (length after) ≤ x = first (omega arith) in
-    let m : ℕ = x - 128 - length after in
-    let all : List ℕ = after ++ replicate m 255 in
-    let size : 128 + length all ≡ x = rw (length-append, length-replicate) (omega arith) in
-    let start = fill_first after m (omega arith) (λ h. digit (omega arith)) in
-    let form = digits_form all (fill_octets after m (λ i. bytes (suc i))) start.0 start.1 in
-    (value_after 0 all, replicate m 255, ap (λ (y : ℕ). y ∷ all) (sym size) ∙ sym form.1, omega (arith, form.0), rw length-replicate (omega arith), rw form.1 (omega arith))
+none_begun least (x ∷ rest) low e = absurd (omega arith)
+
+-- in its digits: more of them make it whole
+pub begun : (least count : ℕ) (rest : List ℕ) → least ≤ 128 → Octets rest → length rest < count → count < 127 → (0 < length rest → least_digit count ≤ get_or rest 0 0) → LengthIs least ((128 + count) ∷ rest) Incomplete
+begun least count rest low bytes cut_off used digit =
+    let m : ℕ = count - length rest in
+    let all : List ℕ = rest ++ replicate m 255 in
+    let size : length all ≡ count = rw (length-append, length-replicate) (omega arith) in
+    let start = fill_first rest m (omega arith) (λ h. omega (arith, digit h, least_some count)) in
+    let form = digits_form all (fill_octets rest m bytes) start.0 start.1 in
+    (value_after 0 all, replicate m 255, ap (λ (k : ℕ). (128 + k) ∷ all) (sym size) ∙ sym form.1, omega (arith, form.0), rw length-replicate (omega arith), rw form.1 (omega arith))

@@ -1,27 +1,26 @@
 -- What stands at the front of some octets: that there is one answer, each answer from the tests that lead there, and what a frame at the
 -- front is.
+use Rattle.std.specs.Prelude.{Ok, Err}
 use mathlib.Core.Path.{◌≡◌, refl, sym, ap, ap₂, ◌∙◌, subst}
 use mathlib.Core.Bool.{Bool, true, false}
 use mathlib.Core.List.{List, [], ◌∷◌, ◌++◌, append_assoc, append-nil}
-use Prim.Native.Nat.{ℕ, zero, suc, ◌+◌, ◌-◌, ◌/◌, ◌≤◌, ◌<◌}
+use Prim.Native.Nat.{ℕ, zero, suc, min, ◌+◌, ◌-◌, ◌/◌, ◌≤◌, ◌<◌}
 use native.Mathlib.Omega.{arith}
-use native.Mathlib.Numerals.{one-add}
-use lib.Dec.{eqb, ltb}
+use lib.Dec.{eqb, leb, ltb}
 use lib.ListN.{length, get_or, take, drop, replicate, length-append, length-drop, length-replicate, take-append-drop, drop_of_length-le, get_or-append}
 use lib.Seq.{take_at, drop_at, take_all, drop-nil, length-take-le}
-use borrow.Author.Tests.{eqb-true, eq-eqb, ltb-true, ltb-false}
+use borrow.Author.Tests.{eqb-true, eq-eqb, leb-true, leb-false, ltb-true, ltb-false}
 use Rattle.tokens.proofs.Steps.{both}
 use Rattle.tokens.specs.Answer.{done, require}
 use Rattle.tokens.specs.Octets.{same}
 use Rattle.tokens.specs.declared.answer.Refusal.TheVariants as Refusal
-use Rattle.tokens.specs.declared.answer.Status.TheVariants as status
-use Rattle.frame.specs.Framing.{tag, mechanism, contents, lead, lead_length, frame, Front, Begun, FrontIs, agree, lead_width, is_frame, lead_of, lead_answer, no_frame}
+use Rattle.frame.specs.Framing.{tag, mechanism, contents, lead, lead_length, frame, Front, Begun, FrontIs, agree, lead_width, is_frame, lead_of, lead_answer}
 use Rattle.frame.specs.Length.{octet_count, der_length, value_in, Used, LengthIs}
 use Rattle.frame.specs.declared.framing.Framing.{Framing}
 use Rattle.frame.specs.declared.framing.Framing.TheVariants as framing
 use Rattle.frame.specs.declared.length.Contents.TheVariants.{Incomplete, Wrong}
 use Rattle.frame.proofs.Frames.{mechanism_length, lead_length_lem, frame_length, frame_parts, lead_told, was_written, is_written}
-use Rattle.frame.proofs.Lengths.{count_zero, count_more, der_short, der_long, shortest_form, first_and_rest}
+use Rattle.frame.proofs.Lengths.{count_zero, count_more, der_short, der_long, shortest_form, split_first}
 
 -- ---- There is one answer
 
@@ -80,22 +79,22 @@ module _ (octets : List ℕ) (before n : ℕ) (front : Front octets before n) wh
 -- ---- Octets that are one whole frame, or not
 
 module _ (octets : List ℕ) where
-  pub whole_lead : (before n : ℕ) → Front octets before n → before + n ≡ length octets → lead_answer (lead_of octets) ≡ record { status = status.Done; octets = before }
+  pub whole_lead : (before n : ℕ) → Front octets before n → before + n ≡ length octets → lead_answer (lead_of octets) ≡ Ok before
   unfolding lead_of require
   whole_lead before n f e =
       let written : is_frame octets ≡ true = is_written octets (take n (drop before octets)) (front_frame octets before n f ∙ take_all (before + n) octets (omega arith)) in
       let width : lead_width octets ≡ before = ap lead_width f.octets_are ∙ lead_told f.token f.rest ∙ sym f.before_is in
       rw (written, width)
 
-  no_lead : ((token : List ℕ) → frame token ≡ octets → ⊥) → lead_answer (lead_of octets) ≡ no_frame
+  no_lead : ((token : List ℕ) → frame token ≡ octets → ⊥) → lead_answer (lead_of octets) ≡ Err Refusal.Frame
   unfolding lead_of require
   no_lead not = decided (is_frame octets) refl
     where
-      decided : (t : Bool) → is_frame octets ≡ t → lead_answer (require t Refusal.Frame (done (lead_width octets))) ≡ no_frame
+      decided : (t : Bool) → is_frame octets ≡ t → lead_answer (require t Refusal.Frame (done (lead_width octets))) ≡ Err Refusal.Frame
       decided true e = absurd (not _ (was_written octets e))
       decided false e = refl
 
-  pub not_whole : (before n : ℕ) → Front octets before n → (before + n ≡ length octets → ⊥) → lead_answer (lead_of octets) ≡ no_frame
+  pub not_whole : (before n : ℕ) → Front octets before n → (before + n ≡ length octets → ⊥) → lead_answer (lead_of octets) ≡ Err Refusal.Frame
   not_whole before n f other =
       no_lead (λ token e.
       let tokens = one_frame f.token token f.rest [] (sym f.octets_are ∙ sym e ∙ sym (append-nil (frame token))) in
@@ -104,11 +103,16 @@ module _ (octets : List ℕ) where
   front_of : (token : List ℕ) → frame token ≡ octets → Front octets (lead_length (length token)) (length token)
   front_of token e = record { token = token; rest = []; octets_are = sym e ∙ sym (append-nil (frame token)); before_is = refl; length_is = refl }
 
-  pub begun_lead : Begun octets → lead_answer (lead_of octets) ≡ no_frame
+  pub begun_lead : Begun octets → lead_answer (lead_of octets) ≡ Err Refusal.Frame
   begun_lead b = no_lead (λ token e. not_begun octets _ _ (front_of token e) b)
 
-  pub fault_lead : FrontIs octets framing.Fault → lead_answer (lead_of octets) ≡ no_frame
+  pub fault_lead : FrontIs octets framing.Fault → lead_answer (lead_of octets) ≡ Err Refusal.Frame
   fault_lead p = no_lead (λ token e. p.0 _ _ (front_of token e))
+
+  pub no_token : (f : Framing) → FrontIs octets f → ((before n : ℕ) → f ≡ framing.Token before n → ⊥) → lead_answer (lead_of octets) ≡ Err Refusal.Frame
+  no_token (framing.Token before n) p other = absurd (other before n refl)
+  no_token framing.Incomplete p other = begun_lead p
+  no_token framing.Fault p other = fault_lead p
 
 -- ---- Each answer, from the tests that lead there
 
@@ -145,6 +149,16 @@ pub other_tag : (octets : List ℕ) → length octets < 18446744073709551616 →
 other_tag octets bound some other =
     fault octets bound (λ token rest more used e. other (sym (get_or-append octets more 0 0 some) ∙ ap (λ (l : List ℕ). get_or l 0 0) (e ∙ frame_parts token rest)))
 
+-- no more than all
+pub take_least : (xs : List ℕ) (n : ℕ) {k : ℕ} → k ≡ min (length xs) n → take k xs ≡ take n xs
+take_least xs n e = ap (λ (m : ℕ). take m xs) e ∙ decided (leb n (length xs)) refl
+  where
+    decided : (t : Bool) → leb n (length xs) ≡ t → take (min (length xs) n) xs ≡ take n xs
+    decided true h = let least : min (length xs) n ≡ n = omega (arith, leb-true n (length xs) h) in ap (λ (m : ℕ). take m xs) least
+    decided false h =
+        let past : length xs < n = leb-false n (length xs) h in
+        take_all (min (length xs) n) xs (omega arith) ∙ sym (take_all n xs (omega arith))
+
 -- two lists agree exactly when both can go on to the same
 agree_more : (xs ys : List ℕ) → agree xs ys ≡ true → xs ++ drop (length xs) ys ≡ ys ++ drop (length ys) xs
 unfolding agree same
@@ -172,12 +186,11 @@ made octets n rest more token x e size joined =
 abbrev pub from : ℕ → List ℕ → List ℕ
 from k octets = take (length octets - k) (drop k octets)
 
-pub tagged : (octets : List ℕ) → 0 < length octets → get_or octets 0 0 ≡ tag → octets ≡ tag ∷ from 1 octets
-tagged octets some first =
-    first_and_rest octets some
-    ∙ ap₂ (λ (x : ℕ) (l : List ℕ). x ∷ l) first (sym (take_all (length octets - 1) (drop 1 octets) (rw length-drop (omega arith))))
+-- octets that begin with the tag
+module _ (octets : List ℕ) (bound : length octets < 18446744073709551616) (some : 0 < length octets) (first : get_or octets 0 0 ≡ tag) where
+  begins : octets ≡ tag ∷ from 1 octets
+  begins = sym (split_first octets tag some (sym first))
 
-module _ (octets : List ℕ) (bound : length octets < 18446744073709551616) (begins : octets ≡ tag ∷ from 1 octets) where
   after_is : (token rest more : List ℕ) → octets ++ more ≡ frame token ++ rest → from 1 octets ++ more ≡ der_length (contents (length token)) ++ (mechanism ++ (token ++ rest))
   after_is token rest more e = ap (drop 1) (ap (λ (l : List ℕ). l ++ more) (sym begins) ∙ e ∙ frame_parts token rest)
 
@@ -205,15 +218,12 @@ module _ (octets : List ℕ) (bound : length octets < 18446744073709551616) (beg
     whole : octets ≡ tag ∷ (der_length n ++ rest)
     whole = begins ∙ ap (λ (l : List ℕ). tag ∷ l) e
 
-    pub sizes : length octets ≡ 1 + w + length rest
-    sizes = ap length whole ∙ ap suc (length-append (der_length n) rest) ∙ omega arith
-
-    rest_is : from (1 + w) octets ≡ rest
+    rest_is : from w (from 1 octets) ≡ rest
     rest_is =
-        take_all (length octets - (1 + w)) (drop (1 + w) octets) (rw length-drop (omega arith))
-        ∙ ap₂ (λ (k : ℕ) (l : List ℕ). drop k l) (one-add w) whole ∙ drop_at (der_length n) rest w (sym width)
+        take_all (length (from 1 octets) - w) (drop w (from 1 octets)) (rw length-drop (omega arith))
+        ∙ ap (drop w) e ∙ drop_at (der_length n) rest w (sym width)
 
-    pub other_mechanism : agree (from (1 + w) octets) mechanism ≡ false → FrontIs octets framing.Fault
+    pub other_mechanism : agree (from w (from 1 octets)) mechanism ≡ false → FrontIs octets framing.Fault
     other_mechanism other =
         fault octets bound (λ token x more used f.
         let parts = one_length n (contents (length token)) (rest ++ more) _ (sym (append_assoc (der_length n) rest more) ∙ ap (λ (l : List ℕ). l ++ more) (sym e) ∙ after_is token x more f) in
@@ -222,7 +232,7 @@ module _ (octets : List ℕ) (bound : length octets < 18446744073709551616) (beg
         let z : ◌≡◌ {A = ℕ} 0 1 = cc in
         omega arith)
 
-    module _ (named : agree (from (1 + w) octets) mechanism ≡ true) where
+    module _ (named : agree (from w (from 1 octets)) mechanism ≡ true) where
       joined : rest ++ drop (length rest) mechanism ≡ mechanism ++ drop 11 rest
       unfolding mechanism
       joined = agree_more rest mechanism (ap (λ (l : List ℕ). agree l mechanism) (sym rest_is) ∙ named)

@@ -1,49 +1,61 @@
 -- What stands before a token, placed part by part, and before a token that stands in its place.
-use mathlib.Core.Path.{◌≡◌, sym, ap, ap₂, ◌∙◌}
-use mathlib.Core.List.{List, [], ◌∷◌, ◌++◌, append-nil}
-use Prim.Native.Nat.{ℕ, ◌+◌, ◌-◌, ◌≤◌}
+use mathlib.Core.Path.{◌≡◌, refl, sym, ap, ap₂, ◌∙◌}
+use mathlib.Core.List.{List, [], ◌∷◌, ◌++◌}
+use Prim.Native.Nat.{ℕ, ◌+◌, ◌-◌, ◌≤◌, ◌<◌}
 use native.Mathlib.Omega.{arith}
-use lib.ListN.{length, take, drop, length-drop, drop_of_length-le}
-use lib.Seq.{take_all, take-length, drop-drop}
+use lib.ListN.{length, set, take-append-drop}
+use lib.Seq.{drop-drop}
+use Rattle.std.proofs.lemmas.List.{take-set, drop-set}
+use borrow.Rule.Slice.PartMut.{put_mid}
 use Rattle.tokens.proofs.Laws.{placed_before, placed_after, placed_length}
 use Rattle.tokens.specs.Limits.{placed}
 use Rattle.frame.specs.Framing.{tag, mechanism, contents, lead, lead_length, frame}
 use Rattle.frame.specs.Length.{der_length}
 use Rattle.frame.proofs.Frames.{mechanism_length, lead_length_lem, frame_length}
 
--- a part copied over the front of what stands from an offset on
-pub copied : (at : ℕ) (part buf after : List ℕ) → after ≡ take (length part) part ++ drop (length part) (take (length buf - at) (drop at buf))
-    → take at buf ++ (after ++ drop (length buf - at) (drop at buf)) ≡ placed at part buf
+-- an octet written, and a part of the buffer copied over
+pub set_placed : (at x : ℕ) (buf : List ℕ) → at < length buf → set buf at x ≡ placed at (x ∷ []) buf
 unfolding placed
-copied at part buf after e =
-    let rest : length (drop at buf) ≤ length buf - at = rw length-drop (omega arith) in
-    rw (e, take-length part, take_all (length buf - at) (drop at buf) rest, drop-drop (length part) at buf, drop_of_length-le (drop at buf) rest, append-nil)
+set_placed at x buf h = sym (take-append-drop at (set buf at x)) ∙ ap₂ ◌++◌ (take-set buf at x) (drop-set buf at x h)
 
--- the tag, the length and the mechanism, one after the other
-module _ (start n w : ℕ) (form b₀ b₁ : List ℕ) (width : w ≡ length (der_length (contents n))) (form-is : form ≡ der_length (contents n)) (inside : start + lead_length n ≤ length b₀)
-    (first : b₁ ≡ placed start (tag ∷ []) b₀) where
-  room : start + (12 + w) ≤ length b₀
-  room = omega (arith, lead_length_lem n)
+pub put_placed : (at k : ℕ) (part buf : List ℕ) → k ≡ length part → put_mid at k buf part ≡ placed at part buf
+unfolding placed
+put_placed at k part buf e = rw (e, drop-drop (length part) at buf) refl
 
-  form_length : length form ≡ w
-  form_length = ap length form-is ∙ sym width
+-- the tag, the length and the mechanism, written one after the other
+module _ (start n w : ℕ) (form buf : List ℕ) (width : w ≡ length form) (form-is : form ≡ der_length (contents n)) (inside : start + lead_length n ≤ length buf) where
+  pub room : start + (12 + w) ≤ length buf
+  room = omega (arith, lead_length_lem n, ap length form-is)
 
-  pub first_length : length b₁ ≡ length b₀
-  first_length = ap length first ∙ placed_length start (tag ∷ []) b₀ (omega (arith, room))
+  abbrev after_tag : List ℕ
+  after_tag = set buf start tag
 
-  module _ (b₂ : List ℕ) (second : b₂ ≡ placed (start + 1) form b₁) where
-    pub second_length : length b₂ ≡ length b₀
-    second_length = ap length second ∙ placed_length (start + 1) form b₁ (omega (arith, room, first_length, form_length)) ∙ first_length
+  tag_placed : after_tag ≡ placed start (tag ∷ []) buf
+  tag_placed = set_placed start tag buf (omega (arith, room))
 
-    pub lead_placed : (b₃ : List ℕ) → b₃ ≡ placed (start + 1 + w) mechanism b₂ → b₃ ≡ placed start (lead n) b₀
-    unfolding lead
-    lead_placed b₃ third =
-        let two : b₂ ≡ placed start (tag ∷ form) b₀ = second ∙ ap (placed (start + 1) form) first ∙ placed_after start (tag ∷ []) form b₀ (omega (arith, room, form_length)) in
-        let next : start + 1 + w ≡ start + length (tag ∷ form) = omega (arith, form_length) in
-        third
-        ∙ ap₂ (λ (k : ℕ) (l : List ℕ). placed k mechanism l) next two
-        ∙ placed_after start (tag ∷ form) mechanism b₀ (omega (arith, room, form_length, mechanism_length))
-        ∙ ap (λ (l : List ℕ). placed start (tag ∷ (l ++ mechanism)) b₀) form-is
+  pub tag_length : length after_tag ≡ length buf
+  tag_length = ap length tag_placed ∙ placed_length start (tag ∷ []) buf (omega (arith, room))
+
+  abbrev after_form : List ℕ
+  after_form = put_mid (start + 1) (start + 1 + w - (start + 1)) after_tag form
+
+  form_placed : after_form ≡ placed start (tag ∷ form) buf
+  form_placed =
+      put_placed (start + 1) (start + 1 + w - (start + 1)) form after_tag (omega (arith, width))
+      ∙ ap (placed (start + 1) form) tag_placed
+      ∙ placed_after start (tag ∷ []) form buf (omega (arith, room, width))
+
+  pub form_length : length after_form ≡ length buf
+  form_length = ap length form_placed ∙ placed_length start (tag ∷ form) buf (omega (arith, room, width))
+
+  pub lead_written : put_mid (start + 1 + w) (start + 1 + w + 11 - (start + 1 + w)) after_form mechanism ≡ placed start (lead n) buf
+  unfolding lead
+  lead_written =
+      let next : start + 1 + w ≡ start + length (tag ∷ form) = omega (arith, width) in
+      put_placed (start + 1 + w) (start + 1 + w + 11 - (start + 1 + w)) mechanism after_form (omega (arith, mechanism_length))
+      ∙ ap₂ (λ (k : ℕ) (l : List ℕ). placed k mechanism l) next form_placed
+      ∙ placed_after start (tag ∷ form) mechanism buf (omega (arith, room, width, mechanism_length))
+      ∙ ap (λ (l : List ℕ). placed start (tag ∷ (l ++ mechanism)) buf) form-is
 
 -- ---- The lead before a token that stands in its place
 

@@ -1,4 +1,5 @@
 -- The length of DER: its two forms, what they say, and that the shortest form is read back and is the only one so short.
+use Rattle.std.specs.Prelude.{Some, None}
 use mathlib.Core.Path.{◌≡◌, refl, sym, ap, ap₂, ◌∙◌}
 use mathlib.Core.Bool.{Bool, true, false, cond}
 use mathlib.Core.List.{List, [], ◌∷◌, ◌++◌, append_assoc, append-nil}
@@ -13,7 +14,6 @@ use borrow.Author.Tests.{ltb-true, ltb-false, lt-ltb, le-ltb, leb-true, leb-fals
 use Rattle.primitives.specs.Octets.{Octets}
 use Rattle.tokens.proofs.Laws.{region_octets}
 use Rattle.frame.specs.Length.{count_within, octet_count, high_first, der_length, value_after, up_to, width_in, value_in, Says, ShortestForm}
-use Rattle.frame.specs.declared.length.Value.TheVariants.{Number, Above}
 
 -- ---- How many octets a number takes
 
@@ -90,26 +90,26 @@ pub value_all : (n : ℕ) (octets : List ℕ) (i : ℕ) → length octets ≤ i 
 unfolding value_after
 value_all n octets i h = ap (value_after n) (drop_of_length-le octets {i = i} h)
 
-pub at_most : (most n : ℕ) → n ≤ most → up_to most n ≡ Number n
+pub at_most : (most n : ℕ) → n ≤ most → up_to most n ≡ Some n
 at_most most n h = rw (le-leb n most h) refl
 
-pub above : (most n : ℕ) → most < n → up_to most n ≡ Above
+pub above : (most n : ℕ) → most < n → up_to most n ≡ None
 above most n h = rw (lt-leb n most h) refl
 
-above_number : (n : ℕ) → Above ≡ Number n → ⊥
+above_number : (n : ℕ) → None ≡ Some n → ⊥
 above_number n e = let z : ◌≡◌ {A = ℕ} 0 1 = cc in omega arith
 
-pub was_within : (most n m : ℕ) → up_to most n ≡ Number m → (n ≤ most) × (n ≡ m)
+pub was_within : (most n m : ℕ) → up_to most n ≡ Some m → (n ≤ most) × (n ≡ m)
 was_within most n m e = decided (leb n most) refl e
   where
-    decided : (t : Bool) → leb n most ≡ t → cond t (Number n) Above ≡ Number m → (n ≤ most) × (n ≡ m)
+    decided : (t : Bool) → leb n most ≡ t → cond t (Some n) None ≡ Some m → (n ≤ most) × (n ≡ m)
     decided true et e = (leb-true n most et, cc)
     decided false et e = absurd (above_number m e)
 
-pub was_above : (most n : ℕ) → up_to most n ≡ Above → most < n
+pub was_above : (most n : ℕ) → up_to most n ≡ None → most < n
 was_above most n e = decided (leb n most) refl e
   where
-    decided : (t : Bool) → leb n most ≡ t → cond t (Number n) Above ≡ Above → most < n
+    decided : (t : Bool) → leb n most ≡ t → cond t (Some n) None ≡ None → most < n
     decided true et e = absurd (above_number n (sym e))
     decided false et e = leb-false n most et
 
@@ -228,6 +228,11 @@ der_most n = decided (ltb n 128)
 pub first_and_rest : (octets : List ℕ) → 0 < length octets → octets ≡ get_or octets 0 0 ∷ drop 1 octets
 first_and_rest [] h = absurd (omega arith)
 first_and_rest (x ∷ octets) h = refl
+
+-- the same, where the rest is as it is lent
+pub split_first : (octets : List ℕ) (first : ℕ) → 0 < length octets → first ≡ get_or octets 0 0 → first ∷ take (length octets - 1) (drop 1 octets) ≡ octets
+split_first octets first some e =
+    ap₂ (λ (x : ℕ) (l : List ℕ). x ∷ l) e (take_all (length octets - 1) (drop 1 octets) (rw length-drop (omega arith))) ∙ sym (first_and_rest octets some)
 
 none_left : (octets : List ℕ) → length octets ≡ 0 → octets ≡ []
 none_left [] e = refl

@@ -1,4 +1,5 @@
 -- A region of a buffer that is a frame, and the token in it.
+use Rattle.std.specs.Prelude.{Ok, Err}
 use mathlib.Core.Path.{◌≡◌, refl, sym, ap, ◌∙◌}
 use mathlib.Core.List.{List}
 use Prim.Native.Nat.{ℕ, ◌+◌, ◌-◌, ◌≤◌}
@@ -10,9 +11,9 @@ use Rattle.tokens.proofs.Steps.{require_done, done_same, then_on, then_stops, ne
 use Rattle.tokens.specs.Answer.{Outcome, done, refused, status_number, status_answer, require}
 use Rattle.tokens.specs.Limits.{region}
 use Rattle.tokens.specs.declared.answer.Refusal.{Refusal}
-use Rattle.tokens.specs.declared.answer.Status.TheVariants as status
-use Rattle.frame.specs.Framing.{lead_length, frame, lead_width, lead_of, lead_in, read_framed, lead_answer, Framed}
-use Rattle.frame.specs.declared.framing.Lead.{Lead}
+use Rattle.tokens.specs.declared.answer.Status.{Status}
+use Rattle.tokens.specs.declared.answer.Status.TheVariants.{Done, Refused}
+use Rattle.frame.specs.Framing.{lead_length, frame, lead_width, lead_of, lead_in, read_framed, lead_answer, passed, Framed}
 use Rattle.frame.proofs.Frames.{frames_exactly, frame_length}
 
 -- ---- What is found
@@ -21,13 +22,22 @@ use Rattle.frame.proofs.Frames.{frames_exactly, frame_length}
 pub lent : (buf : List ℕ) (start n : ℕ) → take (start + n - start) (drop start buf) ≡ region start n buf
 lent buf start n = let size : start + n - start ≡ n = omega arith in ap (λ (k : ℕ). take k (drop start buf)) size
 
-pub lead_found : (o : Outcome ℕ) {l : Lead} → l ≡ lead_answer o → l.status ≡ status.Done → o ≡ done l.octets
-lead_found (done n) e d = ap done (sym (ap (λ (x : Lead). x.octets) e))
-lead_found (refused r) e d = absurd (never_zero r (ap status_number (sym (ap (λ (x : Lead). x.status) e) ∙ d)))
+pub lead_found : (o : Outcome ℕ) {n : ℕ} → Ok n ≡ lead_answer o → o ≡ done n
+lead_found (done n) e = cc
+lead_found (refused r) e = cc
 
-pub lead_refused : (o : Outcome ℕ) {l : Lead} {q : Refusal} → l ≡ lead_answer o → l.status ≡ status.Refused q → o ≡ refused q
-lead_refused (done n) {q = q} e d = absurd (never_zero q (sym (ap status_number (sym (ap (λ (x : Lead). x.status) e) ∙ d))))
-lead_refused (refused r) e d = let same : ◌≡◌ (status.Refused r) _ = sym (ap (λ (x : Lead). x.status) e) ∙ d in cc
+pub lead_refused : (o : Outcome ℕ) {q : Refusal} → Err q ≡ lead_answer o → o ≡ refused q
+lead_refused (done n) e = cc
+lead_refused (refused r) e = cc
+
+-- a step as a result
+pub passed_done : (s : Status) → Ok tt ≡ passed s → s ≡ Done
+passed_done Done e = refl
+passed_done (Refused q) e = cc
+
+pub passed_refused : (s : Status) {q : Refusal} → Err q ≡ passed s → s ≡ Refused q
+passed_refused Done e = cc
+passed_refused (Refused q) e = cc
 
 module _ {A : Type 0} (read : ℕ → ℕ → Outcome A) (buf : List ℕ) (start n : ℕ) where
   pub read_refused : {q : Refusal} → lead_in buf start n ≡ refused q → read_framed read buf start n ≡ refused q

@@ -1,15 +1,15 @@
 -- The outer frame of a token: RFC 2743, section 3.1. The rule that writes one, what stands at the front of some octets, and reading a
 -- region that is a frame. All of it is said over the rule that writes.
-use Rattle.std.specs.Prelude.{ℕ, ◌+◌, ◌-◌, ◌<◌, ◌≡◌, Bool, true, List, [], ◌∷◌, ◌++◌, length, take, drop}
+use Rattle.std.specs.Prelude.{ℕ, ◌+◌, ◌-◌, ◌<◌, ◌≡◌, Bool, true, List, [], ◌∷◌, ◌++◌, length, take, drop, Result, Ok, Err, ⊤}
 use Rattle.tokens.specs.Answer.{Outcome, done, refused, require, and_then}
 use Rattle.tokens.specs.Limits.{inside, region}
 use Rattle.tokens.specs.Octets.{same}
-use Rattle.tokens.specs.declared.answer.Refusal.TheVariants as Refusal
+use Rattle.tokens.specs.declared.answer.Refusal.{Refusal}
+use Rattle.tokens.specs.declared.answer.Status.{Status}
 use Rattle.tokens.specs.declared.answer.Status.TheVariants as status
 use Rattle.frame.specs.Length.{der_length, width_in, Used}
 use Rattle.frame.specs.declared.framing.Framing.{Framing}
 use Rattle.frame.specs.declared.framing.Framing.TheVariants.{Token, Incomplete, Fault}
-use Rattle.frame.specs.declared.framing.Lead.{Lead}
 
 -- ---- Writing
 
@@ -86,13 +86,15 @@ lead_in buf start n = require (inside start n buf) Refusal.Region (lead_of (regi
 unfoldable pub read_framed : {A : Type 0} → (ℕ → ℕ → Outcome A) → List ℕ → ℕ → ℕ → Outcome A
 read_framed read buf start n = and_then (lead_in buf start n) (λ (lead : ℕ). read (start + lead) (n - lead))
 
--- what `lead_in` returns: zero octets with a refusal
-abbrev pub lead_answer : Outcome ℕ → Lead
-lead_answer (done n) = record { status = status.Done; octets = n }
-lead_answer (refused r) = record { status = status.Refused r; octets = 0 }
+-- what `lead_in` returns
+abbrev pub lead_answer : Outcome ℕ → Result ℕ Refusal
+lead_answer (done n) = Ok n
+lead_answer (refused r) = Err r
 
-abbrev pub no_frame : Lead
-no_frame = lead_answer (refused Refusal.Frame)
+-- the status of a step as a result
+abbrev pub passed : Status → Result ⊤ Refusal
+passed status.Done = Ok tt
+passed (status.Refused r) = Err r
 
 -- ---- Reading exactly what the rule writes
 

@@ -1,11 +1,9 @@
 -- The length of DER: X.690, sections 8.1.3 and 10.1. The one form that says a number in the fewest octets, what a length says, and that
 -- the form is read back and is the only one so short.
-use Rattle.std.specs.Prelude.{ℕ, zero, suc, ◌+◌, ◌*◌, ◌-◌, ◌/◌, ◌%◌, ◌≤◌, ◌<◌, ◌≡◌, cond, List, [], ◌∷◌, ◌++◌, leb, ltb, length, get_or, take, drop}
+use Rattle.std.specs.Prelude.{ℕ, zero, suc, ◌+◌, ◌*◌, ◌-◌, ◌/◌, ◌%◌, ◌≤◌, ◌<◌, ◌≡◌, cond, List, [], ◌∷◌, ◌++◌, eqb, leb, ltb, length, get_or, take, drop, Option, Some, None}
 use Rattle.primitives.specs.Octets.{Octets}
 use Rattle.frame.specs.declared.length.Contents.{Contents}
 use Rattle.frame.specs.declared.length.Contents.TheVariants.{Counted, Cut, Incomplete, Wrong}
-use Rattle.frame.specs.declared.length.Value.{Value}
-use Rattle.frame.specs.declared.length.Value.TheVariants.{Number, Above}
 
 -- ---- The shortest form
 
@@ -37,8 +35,8 @@ value_after n [] = n
 value_after n (octet ∷ octets) = value_after (n * 256 + octet) octets
 
 -- a number, if it is at most so much
-abbrev pub up_to : ℕ → ℕ → Value
-up_to most n = cond (leb n most) (Number n) Above
+abbrev pub up_to : ℕ → ℕ → Option ℕ
+up_to most n = cond (leb n most) (Some n) None
 
 -- how many octets the length at the front of some octets takes, by its first (8.1.3.4, 8.1.3.5)
 unfoldable pub width_in : List ℕ → ℕ
@@ -63,6 +61,10 @@ LengthIs least octets Wrong = (n : ℕ) → least ≤ n → Used n → (rest mor
 -- a length below 128, which is one octet, with so many octets after it
 abbrev pub short_form : ℕ → ℕ → ℕ → Contents
 short_form least n rest = cond (ltb n least) Wrong (cond (ltb rest n) (Cut 1) (Counted 1 n))
+
+-- the least that the first of so many digits is in the shortest form
+abbrev pub least_digit : ℕ → ℕ
+least_digit count = cond (eqb count 1) 128 1
 
 -- ---- The shortest form is read back, and is the only one so short
 

@@ -7,7 +7,7 @@ use crate::framing::Framing;
 
 // What stands at the front of the octets that are held: a frame of so many octets; nothing that can be told without more of the
 // capture; its end; or a fault.
-#[derive(Clone, Copy)]
+#[derive(Clone, Copy, Debug, PartialEq, Eq)]
 pub enum Next {
     Frame(usize),
     More,
@@ -22,15 +22,8 @@ pub fn next_frame(held: &[u8], last: bool) -> Next
 {
     match framing::framing_in(held) {
         Framing::Token { lead, length } => Next::Frame(lead + length),
-        Framing::Incomplete => {
-            if !last {
-                return Next::More;
-            }
-            if held.len() == 0 {
-                return Next::End;
-            }
-            Next::Fault
-        }
-        Framing::Fault => Next::Fault,
+        Framing::Incomplete if !last => Next::More,
+        Framing::Incomplete if held.is_empty() => Next::End,
+        Framing::Incomplete | Framing::Fault => Next::Fault,
     }
 }

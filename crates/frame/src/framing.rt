@@ -9,25 +9,15 @@ use tokens::checks;
 
 // What stands at the front of some octets: a frame, with so many octets before its token and so many in it; the beginning of a frame, of
 // which more is needed; or neither, whatever follows.
-#[derive(Clone, Copy)]
+#[derive(Clone, Copy, Debug, PartialEq, Eq)]
 pub enum Framing {
     Token { lead: usize, length: usize },
     Incomplete,
     Fault,
 }
 
-// The octets before the token of a region that is a frame, or a refusal.
-#[derive(Clone, Copy)]
-pub struct Lead {
-    pub status: Status,
-    pub octets: usize,
-}
-
 // The tag: [APPLICATION 0], constructed.
 pub const TAG: u8 = 0x60;
-
-// Octets of the mechanism.
-pub const MECHANISM_LENGTH: usize = 11;
 
 // The object identifier of the mechanism, with its own tag and length.
 pub const MECHANISM: [u8; 11] = [
@@ -38,86 +28,55 @@ pub const MECHANISM: [u8; 11] = [
 fn is_mechanism(octets: &[u8]) -> bool
     ensures { result ≡ Spec.agree octets.now Spec.mechanism }
 {
-    let mechanism = MECHANISM;
-    if octets.len() < MECHANISM_LENGTH {
-        let n = octets.len();
-        return checks::same(octets, &mechanism[..n]);
-    }
-    checks::same(&octets[..MECHANISM_LENGTH], &mechanism)
+    let count = octets.len().min(MECHANISM.len());
+    checks::same(&octets[..count], &MECHANISM[..count])
 }
 
 // What stands at the front of some octets, whatever follows it.
 pub fn framing_in(octets: &[u8]) -> Framing
     ensures { Spec.FrontIs octets.now result }
 {
-    if octets.len() == 0 {
+    let [tag, rest @ ..] = octets else {
         return Framing::Incomplete;
-    }
-    if octets[0] != TAG {
+    };
+    if *tag != TAG {
         return Framing::Fault;
     }
-    match length::contents_in(MECHANISM_LENGTH, &octets[1..]) {
-        Contents::Counted { width, value } => {
-            let from = 1 + width;
-            if is_mechanism(&octets[from..]) {
-                return Framing::Token {
-                    lead: from + MECHANISM_LENGTH,
-                    length: value - MECHANISM_LENGTH,
-                };
-            }
-            Framing::Fault
-        }
-        Contents::Cut { width } => {
-            if is_mechanism(&octets[1 + width..]) {
-                return Framing::Incomplete;
-            }
-            Framing::Fault
-        }
+    match length::contents_in(MECHANISM.len(), rest) {
+        Contents::Counted { width, value } if is_mechanism(&rest[width..]) => Framing::Token {
+            lead: 1 + width + MECHANISM.len(),
+            length: value - MECHANISM.len(),
+        },
+        Contents::Cut { width } if is_mechanism(&rest[width..]) => Framing::Incomplete,
         Contents::Incomplete => Framing::Incomplete,
-        Contents::Wrong => Framing::Fault,
+        _ => Framing::Fault,
     }
 }
 
-// The refusal of octets that are not one whole frame.
-fn no_frame() -> Lead
-    ensures { result ≡ Spec.no_frame }
+// The result of a step that makes one test.
+fn passed(status: Status) -> Result<(), Refusal>
+    ensures { result ≡ Spec.passed status }
 {
-    Lead {
-        status: Status::Refused(Refusal::Frame),
-        octets: 0,
+    match status {
+        Status::Done => Ok(()),
+        Status::Refused(refusal) => Err(refusal),
     }
 }
 
 // How many octets stand before the token, if some octets are one whole frame.
-fn lead_of(octets: &[u8]) -> Lead
+fn lead_of(octets: &[u8]) -> Result<usize, Refusal>
     ensures { result ≡ Spec.lead_answer (Spec.lead_of octets.now) }
 {
     match framing_in(octets) {
-        Framing::Token { lead, length } => {
-            if lead + length == octets.len() {
-                return Lead {
-                    status: Status::Done,
-                    octets: lead,
-                };
-            }
-            no_frame()
-        }
-        Framing::Incomplete => no_frame(),
-        Framing::Fault => no_frame(),
+        Framing::Token { lead, length } if lead + length == octets.len() => Ok(lead),
+        _ => Err(Refusal::Frame),
     }
 }
 
 // How many octets stand before the token in the region of `len` octets from `start`, if it is one whole frame.
-pub fn lead_in(buf: &[u8], start: usize, len: usize) -> Lead
+pub fn lead_in(buf: &[u8], start: usize, len: usize) -> Result<usize, Refusal>
     ensures { result ≡ Spec.lead_answer (Spec.lead_in buf.now start len) }
 {
-    let placed = checks::region(start, len, buf.len());
-    let Status::Done = placed else {
-        return Lead {
-            status: placed,
-            octets: 0,
-        };
-    };
-    let end = start + len;
-    lead_of(&buf[start..end])
+    passed(checks::region(start, len, buf.len()))?;
+    lead_of(&buf[start..start + len])
 }

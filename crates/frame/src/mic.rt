@@ -48,11 +48,8 @@ pub fn framed_mic_read(
     ensures answer { result ≡ sequence_answer (Spec.framed_mic_reading context «data».now buf.now start len) }
     ensures exact { Spec.ReadsExactly context «data».now buf.now start len (sequence_refusal result) (sequence_number result) }
 {
-    let found = framing::lead_in(buf, start, len);
-    let status = found.status;
-    let Status::Done = status else {
-        return Sequence::Refused(refused::by(status));
-    };
-    let lead = found.octets;
-    mic::mic_read(context, data, buf, start + lead, len - lead)
+    match framing::lead_in(buf, start, len) {
+        Ok(lead) => mic::mic_read(context, data, buf, start + lead, len - lead),
+        Err(refusal) => Sequence::Refused(refusal),
+    }
 }

@@ -68,11 +68,8 @@ pub fn framed_wrap_open(context: Context, buf: &mut [u8], start: usize, len: usi
     ensures buffer { buf.new ≡ Spec.opened_buffer context buf.old start len }
     ensures exact { Spec.OpensExactly context buf.old start len (unwrapped_number result) (unwrapped_sequence result) (unwrapped_sealed result) (unwrapped_length result) buf.new }
 {
-    let found = framing::lead_in(buf, start, len);
-    let status = found.status;
-    let Status::Done = status else {
-        return Unwrapped::Refused(refused::by(status));
-    };
-    let lead = found.octets;
-    wrap::wrap_open(context, buf, start + lead, len - lead)
+    match framing::lead_in(buf, start, len) {
+        Ok(lead) => wrap::wrap_open(context, buf, start + lead, len - lead),
+        Err(refusal) => Unwrapped::Refused(refusal),
+    }
 }

@@ -11,10 +11,10 @@ use lib.ListN.{length, get_or, take, drop, replicate, length-append, length-drop
 use lib.Seq.{take_at, drop_at, take_all, drop-nil, length-take-le}
 use borrow.Author.Tests.{eqb-true, eq-eqb, leb-true, leb-false, ltb-true, ltb-false}
 use Rattle.tokens.proofs.Steps.{both}
-use Rattle.tokens.specs.Answer.{done, require}
+use Rattle.tokens.specs.Answer.{require}
 use Rattle.tokens.specs.Octets.{same}
 use Rattle.tokens.specs.declared.answer.Refusal.TheVariants as Refusal
-use Rattle.frame.specs.Framing.{tag, mechanism, contents, lead, lead_length, frame, Front, Begun, FrontIs, agree, lead_width, is_frame, lead_of, lead_answer}
+use Rattle.frame.specs.Framing.{tag, mechanism, contents, lead, lead_length, frame, Front, Begun, FrontIs, agree, lead_width, is_frame, lead_of}
 use Rattle.frame.specs.Length.{octet_count, der_length, value_in, Used, LengthIs}
 use Rattle.frame.specs.declared.framing.Framing.{Framing}
 use Rattle.frame.specs.declared.framing.Framing.TheVariants as framing
@@ -79,22 +79,22 @@ module _ (octets : List ℕ) (before n : ℕ) (front : Front octets before n) wh
 -- ---- Octets that are one whole frame, or not
 
 module _ (octets : List ℕ) where
-  pub whole_lead : (before n : ℕ) → Front octets before n → before + n ≡ length octets → lead_answer (lead_of octets) ≡ Ok before
+  pub whole_lead : (before n : ℕ) → Front octets before n → before + n ≡ length octets → lead_of octets ≡ Ok before
   unfolding lead_of require
   whole_lead before n f e =
       let written : is_frame octets ≡ true = is_written octets (take n (drop before octets)) (front_frame octets before n f ∙ take_all (before + n) octets (omega arith)) in
       let width : lead_width octets ≡ before = ap lead_width f.octets_are ∙ lead_told f.token f.rest ∙ sym f.before_is in
       rw (written, width)
 
-  no_lead : ((token : List ℕ) → frame token ≡ octets → ⊥) → lead_answer (lead_of octets) ≡ Err Refusal.Frame
+  no_lead : ((token : List ℕ) → frame token ≡ octets → ⊥) → lead_of octets ≡ Err Refusal.Frame
   unfolding lead_of require
   no_lead not = decided (is_frame octets) refl
     where
-      decided : (t : Bool) → is_frame octets ≡ t → lead_answer (require t Refusal.Frame (done (lead_width octets))) ≡ Err Refusal.Frame
+      decided : (t : Bool) → is_frame octets ≡ t → require t Refusal.Frame (Ok (lead_width octets)) ≡ Err Refusal.Frame
       decided true e = absurd (not _ (was_written octets e))
       decided false e = refl
 
-  pub not_whole : (before n : ℕ) → Front octets before n → (before + n ≡ length octets → ⊥) → lead_answer (lead_of octets) ≡ Err Refusal.Frame
+  pub not_whole : (before n : ℕ) → Front octets before n → (before + n ≡ length octets → ⊥) → lead_of octets ≡ Err Refusal.Frame
   not_whole before n f other =
       no_lead (λ token e.
       let tokens = one_frame f.token token f.rest [] (sym f.octets_are ∙ sym e ∙ sym (append-nil (frame token))) in
@@ -103,13 +103,13 @@ module _ (octets : List ℕ) where
   front_of : (token : List ℕ) → frame token ≡ octets → Front octets (lead_length (length token)) (length token)
   front_of token e = record { token = token; rest = []; octets_are = sym e ∙ sym (append-nil (frame token)); before_is = refl; length_is = refl }
 
-  pub begun_lead : Begun octets → lead_answer (lead_of octets) ≡ Err Refusal.Frame
+  pub begun_lead : Begun octets → lead_of octets ≡ Err Refusal.Frame
   begun_lead b = no_lead (λ token e. not_begun octets _ _ (front_of token e) b)
 
-  pub fault_lead : FrontIs octets framing.Fault → lead_answer (lead_of octets) ≡ Err Refusal.Frame
+  pub fault_lead : FrontIs octets framing.Fault → lead_of octets ≡ Err Refusal.Frame
   fault_lead p = no_lead (λ token e. p.0 _ _ (front_of token e))
 
-  pub no_token : (f : Framing) → FrontIs octets f → ((before n : ℕ) → f ≡ framing.Token before n → ⊥) → lead_answer (lead_of octets) ≡ Err Refusal.Frame
+  pub no_token : (f : Framing) → FrontIs octets f → ((before n : ℕ) → f ≡ framing.Token before n → ⊥) → lead_of octets ≡ Err Refusal.Frame
   no_token (framing.Token before n) p other = absurd (other before n refl)
   no_token framing.Incomplete p other = begun_lead p
   no_token framing.Fault p other = fault_lead p

@@ -5,8 +5,8 @@ use mathlib.Core.List.{List, ◌++◌}
 use Prim.Native.Nat.{ℕ, ◌+◌, ◌≤◌}
 use lib.ListN.{length, take, drop}
 use borrow.Author.Tests.{leb-true}
+use Rattle.std.specs.Prelude.{Ok}
 use Rattle.tokens.proofs.Steps.{require_done, done_same, within_bounds}
-use Rattle.tokens.specs.Answer.{done}
 use Rattle.tokens.specs.Limits.{most_message, region}
 use Rattle.tokens.specs.Mic.{mic_token, mic_length}
 use Rattle.tokens.specs.Wrap.{parts, wrap_token, wrap_length}
@@ -60,7 +60,7 @@ frame_next = Captures.frame_next
 -- ---- What a writer made
 
 module _ {octets : List ℕ} where
-  pub framed_mic_made : (context : Context) (n : ℕ) (text buf : List ℕ) (start : ℕ) → Mic.framed_mic_writing context n text buf start ≡ done octets
+  pub framed_mic_made : (context : Context) (n : ℕ) (text buf : List ℕ) (start : ℕ) → Mic.framed_mic_writing context n text buf start ≡ Ok octets
       → (length text ≤ most_message) × (start + (lead_length mic_length + mic_length) ≤ length buf) × (octets ≡ frame (mic_token context n text))
   unfolding Mic.framed_mic_writing
   framed_mic_made context n text buf start e =
@@ -68,7 +68,7 @@ module _ {octets : List ℕ} where
       let fits = require_done _ _ _ octets sized.1 in
       ((within_bounds 0 most_message (length text) sized.0).1, leb-true _ _ fits.0, sym (done_same fits.1))
 
-  pub framed_wrap_made : (context : Context) (sequence : ℕ) (confounder : List ℕ) (sealed : Bool) (buf : List ℕ) (start n : ℕ) → Wrap.framed_wrap_writing context sequence confounder sealed buf start n ≡ done octets
+  pub framed_wrap_made : (context : Context) (sequence : ℕ) (confounder : List ℕ) (sealed : Bool) (buf : List ℕ) (start n : ℕ) → Wrap.framed_wrap_writing context sequence confounder sealed buf start n ≡ Ok octets
       → (n ≤ most_message) × (start + (lead_length (wrap_length n) + wrap_length n) ≤ length buf)
       × (octets ≡ frame (wrap_token context (parts sequence sealed confounder (region (Wrap.framed_message_at start n) n buf))))
   unfolding Wrap.framed_wrap_writing

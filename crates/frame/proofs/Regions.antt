@@ -6,14 +6,14 @@ use Prim.Native.Nat.{ℕ, ◌+◌, ◌-◌, ◌≤◌}
 use native.Mathlib.Omega.{arith}
 use lib.ListN.{length, take, drop, length-drop}
 use lib.Seq.{take-add, drop_at, drop-drop, length-take-le}
+use lib.Dec.{leb}
 use borrow.Author.Tests.{leb-true, le-leb}
-use Rattle.tokens.proofs.Steps.{require_done, done_same, then_on, then_stops, never_zero}
-use Rattle.tokens.specs.Answer.{Outcome, done, refused, status_number, status_answer, require}
-use Rattle.tokens.specs.Limits.{region}
+use Rattle.tokens.proofs.Steps.{goes_on, stops, test_held, require_done, done_same, then_on, then_stops, never_zero}
+use Rattle.tokens.specs.Answer.{Outcome, status_number, require, tested}
+use Rattle.tokens.specs.Limits.{inside, region}
 use Rattle.tokens.specs.declared.answer.Refusal.{Refusal}
-use Rattle.tokens.specs.declared.answer.Status.{Status}
-use Rattle.tokens.specs.declared.answer.Status.TheVariants.{Done, Refused}
-use Rattle.frame.specs.Framing.{lead_length, frame, lead_width, lead_of, lead_in, read_framed, lead_answer, passed, Framed}
+use Rattle.tokens.specs.declared.answer.Refusal.TheVariants as refusal
+use Rattle.frame.specs.Framing.{lead_length, frame, lead_width, lead_of, lead_in, read_framed, Framed}
 use Rattle.frame.proofs.Frames.{frames_exactly, frame_length}
 
 -- ---- What is found
@@ -22,29 +22,24 @@ use Rattle.frame.proofs.Frames.{frames_exactly, frame_length}
 pub lent : (buf : List ℕ) (start n : ℕ) → take (start + n - start) (drop start buf) ≡ region start n buf
 lent buf start n = let size : start + n - start ≡ n = omega arith in ap (λ (k : ℕ). take k (drop start buf)) size
 
-pub lead_found : (o : Outcome ℕ) {n : ℕ} → Ok n ≡ lead_answer o → o ≡ done n
-lead_found (done n) e = cc
-lead_found (refused r) e = cc
+-- the region's test
+pub region_fits : (a b : ℕ) → Ok tt ≡ tested (leb a b) refusal.Region → a ≤ b
+region_fits a b e = leb-true a b (test_held (leb a b) refusal.Region (sym e))
 
-pub lead_refused : (o : Outcome ℕ) {q : Refusal} → Err q ≡ lead_answer o → o ≡ refused q
-lead_refused (done n) e = cc
-lead_refused (refused r) e = cc
+pub region_refused : (buf : List ℕ) (start n : ℕ) {q : Refusal} → Err q ≡ tested (inside start n buf) refusal.Region → lead_in buf start n ≡ Err q
+unfolding lead_in
+region_refused buf start n e = stops (inside start n buf) refusal.Region (lead_of (region start n buf)) e refl
 
--- a step as a result
-pub passed_done : (s : Status) → Ok tt ≡ passed s → s ≡ Done
-passed_done Done e = refl
-passed_done (Refused q) e = cc
-
-pub passed_refused : (s : Status) {q : Refusal} → Err q ≡ passed s → s ≡ Refused q
-passed_refused Done e = cc
-passed_refused (Refused q) e = cc
+pub region_read : (buf : List ℕ) (start n : ℕ) → Ok tt ≡ tested (inside start n buf) refusal.Region → lead_in buf start n ≡ lead_of (take (start + n - start) (drop start buf))
+unfolding lead_in
+region_read buf start n e = goes_on (inside start n buf) refusal.Region (lead_of (region start n buf)) e refl ∙ sym (ap lead_of (lent buf start n))
 
 module _ {A : Type 0} (read : ℕ → ℕ → Outcome A) (buf : List ℕ) (start n : ℕ) where
-  pub read_refused : {q : Refusal} → lead_in buf start n ≡ refused q → read_framed read buf start n ≡ refused q
+  pub read_refused : {q : Refusal} → lead_in buf start n ≡ Err q → read_framed read buf start n ≡ Err q
   unfolding read_framed
   read_refused e = then_stops _ e
 
-  pub read_token : {before : ℕ} → lead_in buf start n ≡ done before → read_framed read buf start n ≡ read (start + before) (n - before)
+  pub read_token : {before : ℕ} → lead_in buf start n ≡ Ok before → read_framed read buf start n ≡ read (start + before) (n - before)
   unfolding read_framed
   read_token e = then_on _ e
 
@@ -62,7 +57,7 @@ module _ (buf : List ℕ) (start n : ℕ) where
   pub region_length : start + n ≤ length buf → length (region start n buf) ≡ n
   region_length fits = length-take-le n (drop start buf) (rw length-drop (omega arith))
 
-  module _ (before : ℕ) (e : lead_in buf start n ≡ done before) where
+  module _ (before : ℕ) (e : lead_in buf start n ≡ Ok before) where
     pub in_frame : InFrame buf start n before
     unfolding lead_in lead_of
     in_frame =
@@ -88,9 +83,9 @@ module _ (buf : List ℕ) (start n : ℕ) where
     framed_token Holds w = (frames_exactly (region start n buf)).one_token w.token (region (start + before) (n - before) buf) w.as_framed in_frame.frames
 
   -- where no lead is found, the rule writes nothing as the region
-  pub not_framed : {q : Refusal} → lead_in buf start n ≡ refused q → start + n ≤ length buf → (Holds : List ℕ → Type 0) → Framed Holds (region start n buf) → ⊥
+  pub not_framed : {q : Refusal} → lead_in buf start n ≡ Err q → start + n ≤ length buf → (Holds : List ℕ → Type 0) → Framed Holds (region start n buf) → ⊥
   unfolding lead_in lead_of require
   not_framed {q} e fits Holds w =
-      let found : lead_in buf start n ≡ done (lead_width (region start n buf)) =
+      let found : lead_in buf start n ≡ Ok (lead_width (region start n buf)) =
       rw (le-leb (start + n) (length buf) fits, ((frames_exactly (region start n buf)).always_then w.token w.as_framed).0) refl in
-      never_zero q (ap (λ (o : Outcome ℕ). status_number (status_answer o)) (sym e ∙ found))
+      never_zero q (ap (status_number {A = ℕ}) (sym e ∙ found))

@@ -1,12 +1,10 @@
 -- The outer frame of a token: RFC 2743, section 3.1. The rule that writes one, what stands at the front of some octets, and reading a
 -- region that is a frame. All of it is said over the rule that writes.
-use Rattle.std.specs.Prelude.{ℕ, ◌+◌, ◌-◌, ◌<◌, ◌≡◌, Bool, true, List, [], ◌∷◌, ◌++◌, length, take, drop, Result, Ok, Err, ⊤}
-use Rattle.tokens.specs.Answer.{Outcome, done, refused, require, and_then}
+use Rattle.std.specs.Prelude.{ℕ, ◌+◌, ◌-◌, ◌<◌, ◌≡◌, Bool, true, List, [], ◌∷◌, ◌++◌, length, take, drop, Ok}
+use Rattle.tokens.specs.Answer.{Outcome, require, and_then}
 use Rattle.tokens.specs.Limits.{inside, region}
 use Rattle.tokens.specs.Octets.{same}
-use Rattle.tokens.specs.declared.answer.Refusal.{Refusal}
-use Rattle.tokens.specs.declared.answer.Status.{Status}
-use Rattle.tokens.specs.declared.answer.Status.TheVariants as status
+use Rattle.tokens.specs.declared.answer.Refusal.TheVariants as refusal
 use Rattle.frame.specs.Length.{der_length, width_in, Used}
 use Rattle.frame.specs.declared.framing.Framing.{Framing}
 use Rattle.frame.specs.declared.framing.Framing.TheVariants.{Token, Incomplete, Fault}
@@ -76,25 +74,15 @@ is_frame octets = same octets (frame (drop (lead_width octets) octets))
 
 -- the octets before the token, if some octets are one whole frame
 unfoldable pub lead_of : List ℕ → Outcome ℕ
-lead_of octets = require (is_frame octets) Refusal.Frame (done (lead_width octets))
+lead_of octets = require (is_frame octets) refusal.Frame (Ok (lead_width octets))
 
 -- the same for the region of n octets from start: 2, then 9
 unfoldable pub lead_in : List ℕ → ℕ → ℕ → Outcome ℕ
-lead_in buf start n = require (inside start n buf) Refusal.Region (lead_of (region start n buf))
+lead_in buf start n = require (inside start n buf) refusal.Region (lead_of (region start n buf))
 
 -- what reading a framed token gives: 2, 9, and then what reading the token gives, which is told where it starts and how many octets it has
 unfoldable pub read_framed : {A : Type 0} → (ℕ → ℕ → Outcome A) → List ℕ → ℕ → ℕ → Outcome A
 read_framed read buf start n = and_then (lead_in buf start n) (λ (lead : ℕ). read (start + lead) (n - lead))
-
--- what `lead_in` returns
-abbrev pub lead_answer : Outcome ℕ → Result ℕ Refusal
-lead_answer (done n) = Ok n
-lead_answer (refused r) = Err r
-
--- the status of a step as a result
-abbrev pub passed : Status → Result ⊤ Refusal
-passed status.Done = Ok tt
-passed (status.Refused r) = Err r
 
 -- ---- Reading exactly what the rule writes
 

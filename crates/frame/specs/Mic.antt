@@ -1,6 +1,6 @@
 -- The framed MIC token: what writing and reading one gives, and that reading succeeds exactly on what the rules write.
-use Rattle.std.specs.Prelude.{ℕ, ◌+◌, ◌≤◌, ◌≡◌, List, length}
-use Rattle.tokens.specs.Answer.{Outcome, done, require}
+use Rattle.std.specs.Prelude.{ℕ, ◌+◌, ◌≤◌, ◌≡◌, List, length, Ok}
+use Rattle.tokens.specs.Answer.{Outcome, require}
 use Rattle.tokens.specs.Limits.{most_message, within, inside, region}
 use Rattle.tokens.specs.Mic as Mic
 use Rattle.tokens.specs.declared.answer.Refusal.TheVariants.{Length, Region}
@@ -12,7 +12,7 @@ unfoldable pub framed_mic_writing : Context → ℕ → List ℕ → List ℕ �
 framed_mic_writing context n text buf start =
     require (within 0 most_message (length text)) Length
     (require (inside start (lead_length Mic.mic_length + Mic.mic_length) buf) Region
-    (done (frame (Mic.mic_token context n text))))
+    (Ok (frame (Mic.mic_token context n text))))
 
 -- what `framed_mic_read` finds in a region
 unfoldable pub framed_mic_reading : Context → List ℕ → List ℕ → ℕ → ℕ → Outcome ℕ

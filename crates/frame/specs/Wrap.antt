@@ -1,6 +1,6 @@
 -- The framed Wrap token: what writing and opening one gives, and that opening succeeds exactly on what the rules write.
-use Rattle.std.specs.Prelude.{ℕ, ◌+◌, ◌-◌, ◌≤◌, ◌≡◌, Bool, List, length}
-use Rattle.tokens.specs.Answer.{Outcome, done, require}
+use Rattle.std.specs.Prelude.{ℕ, ◌+◌, ◌-◌, ◌≤◌, ◌≡◌, Bool, List, length, Ok}
+use Rattle.tokens.specs.Answer.{Outcome, require}
 use Rattle.tokens.specs.Limits.{most_message, within, inside, region, buffer_after}
 use Rattle.tokens.specs.Wrap as Wrap
 use Rattle.tokens.specs.Wrap.{Parts, parts, wrap_token, wrap_length, message_at}
@@ -10,7 +10,7 @@ use Rattle.frame.specs.Framing.{lead, lead_length, frame, lead_width, read_frame
 
 -- the octets before a token whose message has n octets
 unfoldable pub wrap_lead : ℕ → Outcome (List ℕ)
-wrap_lead n = require (within 0 most_message n) Length (done (lead (wrap_length n)))
+wrap_lead n = require (within 0 most_message n) Length (Ok (lead (wrap_length n)))
 
 -- where the message of n octets stands in a framed token that starts at `start`
 abbrev pub framed_message_at : ℕ → ℕ → ℕ
@@ -21,7 +21,7 @@ unfoldable pub framed_wrap_writing : Context → ℕ → List ℕ → Bool → L
 framed_wrap_writing context sequence confounder sealed buf start n =
     require (within 0 most_message n) Length
     (require (inside start (lead_length (wrap_length n) + wrap_length n) buf) Region
-    (done (frame (wrap_token context (parts sequence sealed confounder (region (framed_message_at start n) n buf))))))
+    (Ok (frame (wrap_token context (parts sequence sealed confounder (region (framed_message_at start n) n buf))))))
 
 -- what `framed_wrap_open` finds in a region
 unfoldable pub framed_wrap_opening : Context → List ℕ → ℕ → ℕ → Outcome Parts

@@ -4,7 +4,7 @@ ghost use Rattle.frame.specs.Framing as Spec;
 
 use crate::length;
 use crate::length::Contents;
-use tokens::answer::{Refusal, Status};
+use tokens::answer::Refusal;
 use tokens::checks;
 
 // What stands at the front of some octets: a frame, with so many octets before its token and so many in it; the beginning of a frame, of
@@ -53,19 +53,9 @@ pub fn framing_in(octets: &[u8]) -> Framing
     }
 }
 
-// The result of a step that makes one test.
-fn passed(status: Status) -> Result<(), Refusal>
-    ensures { result ≡ Spec.passed status }
-{
-    match status {
-        Status::Done => Ok(()),
-        Status::Refused(refusal) => Err(refusal),
-    }
-}
-
 // How many octets stand before the token, if some octets are one whole frame.
 fn lead_of(octets: &[u8]) -> Result<usize, Refusal>
-    ensures { result ≡ Spec.lead_answer (Spec.lead_of octets.now) }
+    ensures { result ≡ Spec.lead_of octets.now }
 {
     match framing_in(octets) {
         Framing::Token { lead, length } if lead + length == octets.len() => Ok(lead),
@@ -74,9 +64,10 @@ fn lead_of(octets: &[u8]) -> Result<usize, Refusal>
 }
 
 // How many octets stand before the token in the region of `len` octets from `start`, if it is one whole frame.
+#[tactic(auto, using(crate::proofs::Regions::region_fits, crate::proofs::Regions::region_refused, crate::proofs::Regions::region_read))]
 pub fn lead_in(buf: &[u8], start: usize, len: usize) -> Result<usize, Refusal>
-    ensures { result ≡ Spec.lead_answer (Spec.lead_in buf.now start len) }
+    ensures { result ≡ Spec.lead_in buf.now start len }
 {
-    passed(checks::region(start, len, buf.len()))?;
+    checks::region(start, len, buf.len())?;
     lead_of(&buf[start..start + len])
 }

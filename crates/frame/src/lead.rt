@@ -6,10 +6,10 @@ ghost use Rattle.frame.specs.Length.{der_length};
 
 use crate::framing::{MECHANISM, TAG};
 use crate::length;
-use crate::length::Length;
+use tokens::short::Short;
 
 // The length in the frame of a token of n octets: it counts the mechanism and the token.
-fn length_of(n: usize) -> Length
+fn length_of(n: usize) -> Short<3>
     requires { n ≤ 32801 }
     ensures { result ≡ der_length (Spec.contents n) }
 {

@@ -2,7 +2,7 @@
 ghost use Rattle.std.specs.Prelude.{◌≡◌, ◌+◌, ◌≤◌, ◌<◌, ◌∷◌, length};
 ghost use Rattle.frame.specs.Length as Spec;
 
-use std::marker::Model;
+use tokens::short::Short;
 
 // A length at the front of some octets: how many octets it has, and how many it counts, if all that it counts follows it; or how many it
 // has, if what follows is cut off; or that the octets end inside it; or that they begin no length.
@@ -14,57 +14,16 @@ pub enum Contents {
     Wrong,
 }
 
-// The octets of a length below 65,536, one to three of them.
-#[derive(Drop)]
-pub struct Length {
-    octets: [u8; 3],
-    width: usize,
-}
-
-impl Model for Length {
-    ghost use Rattle.std.specs.Prelude.{ℕ, ◌≤◌, List, take};
-
-    ghost Value = { List ℕ };
-
-    ghost view = { λ a. take a.width a.octets };
-
-    ghost invariant = { λ a. a.width ≤ 3 };
-}
-
-impl Length {
-    pub fn len(&self) -> usize
-        ensures is { result ≡ length self.now }
-        ensures most { result ≤ 3 }
-    {
-        self.width
-    }
-
-    pub fn as_slice(&self) -> &[u8]
-        ensures { result.now ≡ self.now }
-    {
-        &self.octets[..self.width]
-    }
-}
-
 // The shortest form of a number below 65,536.
 #[tactic(auto, using(crate::proofs::Lengths::der_short, crate::proofs::Lengths::der_two, crate::proofs::Lengths::der_three))]
-pub fn shortest(n: usize) -> Length
+pub fn shortest(n: usize) -> Short<3>
     requires { n < 65536 }
     ensures { result ≡ Spec.der_length n }
 {
     match n {
-        ..128 => Length {
-            octets: [n as u8, 0, 0],
-            width: 1,
-        },
-        ..256 => Length {
-            octets: [0x81, n as u8, 0],
-            width: 2,
-        },
-        _ => Length {
-            octets: [0x82, (n / 256) as u8, (n % 256) as u8],
-            width: 3,
-        },
+        ..128 => Short::from_slice(&[n as u8]),
+        ..256 => Short::from_slice(&[0x81, n as u8]),
+        _ => Short::from_slice(&[0x82, (n / 256) as u8, (n % 256) as u8]),
     }
 }
 

@@ -8,5 +8,4 @@ pub mod framing;
 mod lead;
 mod length;
 pub mod mic;
-mod refused;
 pub mod wrap;

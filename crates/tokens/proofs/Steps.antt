@@ -41,9 +41,12 @@ module _ {A : Type 0} (b : Bool) (r : Refusal) (o : Result A Refusal) {s : Resul
 -- ---- What is returned where a chain stops
 
 -- by the exit of a `?`
+pub exit_is : {A : Type 0} {q : Refusal} (r : Result A Refusal) → IsErrAnd r (λ e. e ≡ q) → r ≡ Err q
+exit_is (Ok a) given = absurd given
+exit_is (Err x) given = ap Err given
+
 pub exits : {A : Type 0} {q : Refusal} (r o : Result A Refusal) → IsErrAnd r (λ e. e ≡ q) → o ≡ Err q → r ≡ o
-exits (Ok a) o given e = absurd given
-exits (Err x) o given e = ap Err given ∙ sym e
+exits r o given e = exit_is r given ∙ sym e
 
 pub buffer_refused : {A : Type 0} (octets : A → List ℕ) (start : ℕ) (buf : List ℕ) {o : Result A Refusal} {q : Refusal} → o ≡ Err q → buf ≡ buffer_after octets start buf o
 buffer_refused octets start buf e = rw e
@@ -89,6 +92,11 @@ module _ {A : Type 0} where
   pub done_mapped : {B : Type 0} (f : A → B) (o : Result A Refusal) → status_number (map_ok f o) ≡ 0 → (a : A) × (o ≡ Ok a)
   done_mapped f (Ok a) e = (a, refl)
   done_mapped f (Err r) e = absurd (never_zero r e)
+
+  -- what has a result is not refused
+  pub not_refused : {B : Type 0} (f : A → B) (o : Result A Refusal) {a : A} {q : Refusal} → o ≡ Ok a → Err q ≡ map_ok f o → ⊥
+  not_refused f (Ok a) e h = cc
+  not_refused f (Err r) e h = cc
 
   pub was_done : (o : Result A Refusal) → status_answer o ≡ Ok tt → (a : A) × (o ≡ Ok a)
   was_done (Ok a) e = (a, refl)

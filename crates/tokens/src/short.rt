@@ -1,5 +1,5 @@
 // A few octets, at most N, in an array.
-ghost use Rattle.std.specs.Prelude.{◌≡◌, ◌≤◌, ℕ, List, take};
+ghost use Rattle.std.specs.Prelude.{◌≡◌, ◌≤◌, ◌↔◌, ℕ, List, length, take, IsTrue};
 
 use std::marker::Model;
 
@@ -30,6 +30,20 @@ impl<const N: usize> Short<N> {
             octets: first,
             length,
         }
+    }
+
+    // How many they are.
+    pub fn len(&self) -> usize
+        ensures is { result ≡ length self.now }
+        ensures most { result ≤ N }
+    {
+        self.length
+    }
+
+    pub fn is_empty(&self) -> bool
+        ensures { IsTrue result ↔ (length self.now ≡ 0) }
+    {
+        self.length == 0
     }
 
     pub fn as_slice(&self) -> &[u8]

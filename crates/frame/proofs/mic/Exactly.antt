@@ -4,8 +4,9 @@ use mathlib.Core.Path.{◌≡◌, subst}
 use mathlib.Core.List.{List}
 use Prim.Native.Nat.{ℕ, ◌+◌, ◌-◌}
 use native.Mathlib.Omega.{arith}
+use Rattle.std.specs.Prelude.{Ok, Err}
 use Rattle.tokens.proofs.Laws.{mic_one, never_zero}
-use Rattle.tokens.specs.Answer.{done, refused, number}
+use Rattle.tokens.specs.Answer.{number}
 use Rattle.tokens.specs.Limits.{region}
 use Rattle.tokens.specs.Mic as Mic
 use Rattle.tokens.specs.declared.answer.Refusal.{Refusal}
@@ -25,7 +26,7 @@ module _ (context : Context) (text : List ℕ) (buf : List ℕ) (start n : ℕ) 
       mic_one context text j k w.token (subst (Mic.Written context text j) token v.holds) w.holds
 
   -- nothing is read, and nothing could be
-  pub nothing_reads : (q : Refusal) → lead_in buf start n ≡ refused q → {answered : ℕ} → ReadsExactly context text buf start n (number q) answered
+  pub nothing_reads : (q : Refusal) → lead_in buf start n ≡ Err q → {answered : ℕ} → ReadsExactly context text buf start n (number q) answered
   nothing_reads q e =
       record {
         only_then = λ z. absurd (never_zero q z);
@@ -34,7 +35,7 @@ module _ (context : Context) (text : List ℕ) (buf : List ℕ) (start n : ℕ) 
       }
 
   -- the token is read
-  pub token_reads : (before : ℕ) → lead_in buf start n ≡ done before → {refusal answered : ℕ}
+  pub token_reads : (before : ℕ) → lead_in buf start n ≡ Ok before → {refusal answered : ℕ}
       → Mic.ReadsExactly context text buf (start + before) (n - before) refusal answered → ReadsExactly context text buf start n refusal answered
   token_reads before e exact =
       let x = in_frame buf start n before e in

@@ -6,8 +6,9 @@ use mathlib.Core.List.{List}
 use Prim.Native.Nat.{ℕ, ◌+◌, ◌-◌}
 use native.Mathlib.Omega.{arith}
 use lib.ListN.{length}
+use Rattle.std.specs.Prelude.{Ok, Err}
 use Rattle.tokens.proofs.Laws.{wrap_one, wrap_length_lem, never_zero}
-use Rattle.tokens.specs.Answer.{done, refused, number}
+use Rattle.tokens.specs.Answer.{number}
 use Rattle.tokens.specs.Limits.{region}
 use Rattle.tokens.specs.Wrap as Wrap
 use Rattle.tokens.specs.Wrap.{Parts, wrap_length}
@@ -28,7 +29,7 @@ module _ (context : Context) (buf : List ℕ) (start n : ℕ) where
       wrap_one context p q w.token (subst (Wrap.Written context p) token v.holds) w.holds
 
   -- nothing is opened, and nothing could be
-  pub nothing_opens : (q : Refusal) → lead_in buf start n ≡ refused q → {sequence : ℕ} {sealed : Bool} {answered : ℕ} {after : List ℕ}
+  pub nothing_opens : (q : Refusal) → lead_in buf start n ≡ Err q → {sequence : ℕ} {sealed : Bool} {answered : ℕ} {after : List ℕ}
       → OpensExactly context buf start n (number q) sequence sealed answered after
   nothing_opens q e =
       record {
@@ -38,7 +39,7 @@ module _ (context : Context) (buf : List ℕ) (start n : ℕ) where
       }
 
   -- the token is opened
-  module _ (before : ℕ) (e : lead_in buf start n ≡ done before) {refusal sequence : ℕ} {sealed : Bool} {answered : ℕ} {after : List ℕ} where
+  module _ (before : ℕ) (e : lead_in buf start n ≡ Ok before) {refusal sequence : ℕ} {sealed : Bool} {answered : ℕ} {after : List ℕ} where
     handed_back : Wrap.OpensExactly context buf (start + before) (n - before) refusal sequence sealed answered after → (p : Parts) → Written context p octets
         → HandedBack p start n refusal sequence sealed answered after
     handed_back exact p w =

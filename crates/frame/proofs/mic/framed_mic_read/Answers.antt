@@ -1,35 +1,36 @@
 -- The refusal of the region or of the frame, or the token read; and from that, that reading succeeds exactly on what the rules write.
-use Rattle.std.proofs.Common.{sym, ap, ◌∙◌, arith}
-use Rattle.tokens.specs.Answer.{sequence_answer}
+use Rattle.std.proofs.Common.{sym, ◌∙◌, arith}
+use Rattle.tokens.proofs.Steps.{exit_is}
 use Rattle.tokens.specs.Mic.{mic_reading}
 use Rattle.frame.specs.Mic as Spec
-use Rattle.frame.proofs.Regions.{lead_found, lead_refused, read_refused, read_token, in_frame}
+use Rattle.frame.proofs.Regions.{read_refused, read_token, in_frame}
 use Rattle.frame.proofs.mic.Exactly.{nothing_reads, token_reads}
 use Rattle.frame.proofs.mic.framed_mic_read.Goals as goal
 
-pub returns-in-Err : goal.returns-in-Err
+pub returns-in_err-lead : goal.returns-in_err-lead
 unfolding Spec.framed_mic_reading
-returns-in-Err c =
+returns-in_err-lead c =
     let a = c.args in
-    let none = lead_refused _ c.in-Err.ensures in
+    let none = sym c.lead_in.ensures ∙ c.in_err-lead.was in
+    let told = exit_is _ c.from_residual.ensures.1 in
     record {
-      answer = ap sequence_answer (sym (read_refused (mic_reading a.context a.«data».now a.buf.now) a.buf.now a.start a.len none));
-      exact = nothing_reads a.context a.«data».now a.buf.now a.start a.len _ none;
+      answer = told ∙ sym (read_refused (mic_reading a.context a.«data».now a.buf.now) a.buf.now a.start a.len none);
+      exact = rw told (nothing_reads a.context a.«data».now a.buf.now a.start a.len _ none);
     }
 
-pub returns-in-Ok : goal.returns-in-Ok
+pub returns : goal.returns
 unfolding Spec.framed_mic_reading
-returns-in-Ok c =
+returns c =
     let a = c.args in
-    let found = lead_found _ c.in-Ok.ensures in
+    let found = sym c.lead_in.ensures ∙ c.in_ok-lead.was in
     let read = c.mic_read.ensures in
     record {
-      answer = read.answer ∙ ap sequence_answer (sym (read_token (mic_reading a.context a.«data».now a.buf.now) a.buf.now a.start a.len found));
+      answer = read.answer ∙ sym (read_token (mic_reading a.context a.«data».now a.buf.now) a.buf.now a.start a.len found);
       exact = token_reads a.context a.«data».now a.buf.now a.start a.len _ found read.exact;
     }
 
 pub overflow_add-start : goal.overflow_add-start
-overflow_add-start c = let x = in_frame _ _ _ _ (lead_found _ c.in-Ok.ensures) in omega (arith, x.fits, x.sum)
+overflow_add-start c = let x = in_frame _ _ _ _ (sym c.lead_in.ensures ∙ c.in_ok-lead.was) in omega (arith, x.fits, x.sum)
 
 pub overflow_sub-len : goal.overflow_sub-len
-overflow_sub-len c = let x = in_frame _ _ _ _ (lead_found _ c.in-Ok.ensures) in omega (arith, x.sum)
+overflow_sub-len c = let x = in_frame _ _ _ _ (sym c.lead_in.ensures ∙ c.in_ok-lead.was) in omega (arith, x.sum)

@@ -1,92 +1,85 @@
 -- The refusals of the length and the region, or the token placed and then the octets before it.
 use mathlib.Core.Path.{◌≡◌, sym, ap, ◌∙◌}
-use mathlib.Core.List.{List}
-use Prim.Native.Nat.{ℕ, ◌+◌, ◌≤◌}
+use Prim.Native.Nat.{ℕ, ◌+◌}
 use native.Mathlib.Omega.{arith}
 use lib.Dec.{leb}
 use lib.ListN.{length}
-use borrow.Author.Tests.{leb-true}
+use Rattle.std.specs.Prelude.{Ok}
 use Rattle.tokens.proofs.Laws.{mic_length_lem, mic_makes}
-use Rattle.tokens.proofs.Steps.{is_refused, goes_on, stops, buffer_refused, test_held, within_bounds}
-use Rattle.tokens.specs.Answer.{done, tested, extent_answer}
-use Rattle.tokens.specs.Limits.{placed, buffer_after}
+use Rattle.tokens.proofs.Steps.{goes_on, stops, exits, buffer_refused, bounds, fits, not_refused}
+use Rattle.tokens.specs.Answer.{tested, map_ok}
+use Rattle.tokens.specs.Limits.{buffer_after}
 use Rattle.tokens.specs.Message.{all_octets}
 use Rattle.tokens.specs.Mic.{mic_token}
 use Rattle.tokens.specs.declared.answer.Refusal.TheVariants.{Region}
-use Rattle.frame.specs.Framing.{lead_length, frame}
+use Rattle.frame.specs.Framing.{frame}
 use Rattle.frame.specs.Mic as Spec
 use Rattle.frame.proofs.Leads.{frame_size, token_length, frame_placed}
 use Rattle.frame.proofs.mic.framed_mic_write.Goals as goal
 
-pub returns-in_default : goal.returns-in_default
+pub returns-in_err-length : goal.returns-in_err-length
 unfolding Spec.framed_mic_writing
-returns-in_default c =
-    let told = c.by.ensures in
-    let refused = stops _ _ _ c.length-sized.ensures told in
+returns-in_err-length c =
+    let refused = stops _ _ _ c.length.ensures c.in_err-length.was in
     record {
-      answer = ap (extent_answer length) (sym refused);
+      answer = exits _ _ c.from_residual.ensures.1 (ap (map_ok length) refused);
       buffer = buffer_refused all_octets _ _ refused;
     }
 
-pub returns-in_default-placed : goal.returns-in_default-placed
+pub overflow_add-total : goal.overflow_add-total
+overflow_add-total c = omega arith
+
+pub returns-in_err-region : goal.returns-in_err-region
 unfolding Spec.framed_mic_writing
-returns-in_default-placed c =
-    let region_tested : let a = c.args in c.region-placed.result ≡ tested (leb (a.start + (lead_length 24 + 24)) (length a.buf.now)) Region = let a = c.args in c.region-placed.ensures ∙ ap (λ (w : ℕ). tested (leb (a.start + (w + 24)) (length a.buf.now)) Region) c.width-before.ensures.0 in
-    let told = c.by-in_default-placed.ensures in
-    let refused = goes_on _ _ _ c.length-sized.ensures c.in-Done.is ∙ stops _ _ _ region_tested told in
+returns-in_err-region c =
+    let a = c.args in
+    let region_tested = c.region.ensures ∙ ap (λ (w : ℕ). tested (leb (a.start + (w + 24)) (length a.buf.now)) Region) c.width-before.ensures.0 in
+    let refused = goes_on _ _ _ c.length.ensures c.in_ok-length.was ∙ stops _ _ _ region_tested c.in_err-region.was in
     record {
-      answer = ap (extent_answer length) (sym refused);
+      answer = exits _ _ c.from_residual-in_err-region.ensures.1 (ap (map_ok length) refused);
       buffer = buffer_refused all_octets _ _ refused;
     }
+
+pub overflow_add-start : goal.overflow_add-start
+overflow_add-start c = let inside = fits c.in_ok-region.was (c.args.start + (c.width-before.result + 24)) _ c.region.ensures in omega (arith, inside)
+
+pub returns-in_err-mic_write : goal.returns-in_err-mic_write
+returns-in_err-mic_write c =
+    let a = c.args in
+    let start = a.start + c.width-before.result in
+    let inside = fits c.in_ok-region.was (a.start + (c.width-before.result + 24)) _ c.region.ensures in
+    let most = (bounds c.in_ok-length.was 0 32768 (length a.«data».now) c.length.ensures).1 in
+    absurd (not_refused length _ (mic_makes a.context a.sequence a.«data».now a.buf.now start most (omega (arith, inside))) (sym c.in_err-mic_write.was ∙ c.mic_write.ensures.answer))
 
 pub write-requires : goal.write-requires
 write-requires c =
-    let buf : List ℕ = c.args.buf.now in
-    let start : ℕ = c.args.start in
-    let token : List ℕ = mic_token c.args.context c.args.sequence c.args.«data».now in
-    let width : ℕ = c.width-before.result in
-    let token_size : length token ≡ 24 = mic_length_lem c.args.context c.args.sequence c.args.«data».now in
-    let inside : start + (width + 24) ≤ length buf = leb-true _ _ (test_held _ _ (sym c.region-placed.ensures ∙ c.in-Done-placed.is)) in
-    let most : length c.args.«data».now ≤ 32768 = (within_bounds 0 32768 _ (test_held _ _ (sym c.length-sized.ensures ∙ c.in-Done.is))).1 in
-    let token_placed : c.mic_write.new.buf ≡ placed (start + width) token buf = let a = c.args in
-    c.mic_write.ensures.buffer ∙ ap (buffer_after all_octets (start + width) buf) (mic_makes a.context a.sequence a.«data».now buf (start + width) most (omega (arith, inside))) in
-    let kept = token_length start width 24 token buf token_size c.width-before.ensures.0 inside _ token_placed in
+    let a = c.args in
+    let buf = a.buf.now in
+    let width = c.width-before.result in
+    let token = mic_token a.context a.sequence a.«data».now in
+    let token_size : length token ≡ 24 = mic_length_lem a.context a.sequence a.«data».now in
+    let inside = fits c.in_ok-region.was (a.start + (width + 24)) _ c.region.ensures in
+    let most = (bounds c.in_ok-length.was 0 32768 (length a.«data».now) c.length.ensures).1 in
+    let token_placed = c.mic_write.ensures.buffer ∙ ap (buffer_after all_octets (a.start + width) buf) (mic_makes a.context a.sequence a.«data».now buf (a.start + width) most (omega (arith, inside))) in
+    let kept = token_length a.start width 24 token buf token_size c.width-before.ensures.0 inside _ token_placed in
     (omega arith, omega (arith, inside, kept, c.width-before.ensures.0))
 
 pub returns : goal.returns
 unfolding Spec.framed_mic_writing
 returns c =
-    let region_tested : let a = c.args in c.region-placed.result ≡ tested (leb (a.start + (lead_length 24 + 24)) (length a.buf.now)) Region = let a = c.args in c.region-placed.ensures ∙ ap (λ (w : ℕ). tested (leb (a.start + (w + 24)) (length a.buf.now)) Region) c.width-before.ensures.0 in
-    let buf : List ℕ = c.args.buf.now in
-    let start : ℕ = c.args.start in
-    let token : List ℕ = mic_token c.args.context c.args.sequence c.args.«data».now in
-    let width : ℕ = c.width-before.result in
-    let token_size : length token ≡ 24 = mic_length_lem c.args.context c.args.sequence c.args.«data».now in
-    let inside : start + (width + 24) ≤ length buf = leb-true _ _ (test_held _ _ (sym c.region-placed.ensures ∙ c.in-Done-placed.is)) in
-    let most : length c.args.«data».now ≤ 32768 = (within_bounds 0 32768 _ (test_held _ _ (sym c.length-sized.ensures ∙ c.in-Done.is))).1 in
-    let ended : Spec.framed_mic_writing c.args.context c.args.sequence c.args.«data».now buf start ≡ done (frame token) = goes_on _ _ _ c.length-sized.ensures c.in-Done.is ∙ goes_on _ _ _ region_tested c.in-Done-placed.is in
-    let token_placed : c.mic_write.new.buf ≡ placed (start + width) token buf = let a = c.args in
-    c.mic_write.ensures.buffer ∙ ap (buffer_after all_octets (start + width) buf) (mic_makes a.context a.sequence a.«data».now buf (start + width) most (omega (arith, inside))) in
-    let size = frame_size start width 24 token buf token_size c.width-before.ensures.0 inside in
-    let written = frame_placed start width 24 token buf token_size c.width-before.ensures.0 inside _ token_placed _ c.write.ensures in
+    let a = c.args in
+    let buf = a.buf.now in
+    let width = c.width-before.result in
+    let region_tested = c.region.ensures ∙ ap (λ (w : ℕ). tested (leb (a.start + (w + 24)) (length buf)) Region) c.width-before.ensures.0 in
+    let token = mic_token a.context a.sequence a.«data».now in
+    let token_size : length token ≡ 24 = mic_length_lem a.context a.sequence a.«data».now in
+    let inside = fits c.in_ok-region.was (a.start + (width + 24)) _ c.region.ensures in
+    let most = (bounds c.in_ok-length.was 0 32768 (length a.«data».now) c.length.ensures).1 in
+    let ended : Spec.framed_mic_writing a.context a.sequence a.«data».now buf a.start ≡ Ok (frame token) = goes_on _ _ _ c.length.ensures c.in_ok-length.was ∙ goes_on _ _ _ region_tested c.in_ok-region.was in
+    let token_placed = c.mic_write.ensures.buffer ∙ ap (buffer_after all_octets (a.start + width) buf) (mic_makes a.context a.sequence a.«data».now buf (a.start + width) most (omega (arith, inside))) in
+    let size = frame_size a.start width 24 token buf token_size c.width-before.ensures.0 inside in
+    let written = frame_placed a.start width 24 token buf token_size c.width-before.ensures.0 inside _ token_placed _ c.write.ensures in
     record {
       answer = rw (ended, size);
       buffer = rw ended written;
     }
-
-pub by-requires : goal.by-requires
-by-requires c = is_refused c.in_default.is
-
-pub overflow_add-total : goal.overflow_add-total
-overflow_add-total c = omega arith
-
-pub by-requires-in_default-placed : goal.by-requires-in_default-placed
-by-requires-in_default-placed c = is_refused c.in_default-placed.is
-
-pub overflow_add-start : goal.overflow_add-start
-overflow_add-start c =
-    let buf : List ℕ = c.args.buf.now in
-    let start : ℕ = c.args.start in
-    let width : ℕ = c.width-before.result in
-    let inside : start + (width + 24) ≤ length buf = leb-true _ _ (test_held _ _ (sym c.region-placed.ensures ∙ c.in-Done-placed.is)) in
-    omega (arith, inside)

@@ -1,30 +1,22 @@
 -- The refusal of the length, or the octets before the token.
-use mathlib.Core.Path.{sym, ap, ◌∙◌}
-use Prim.Native.Nat.{◌≤◌}
+use mathlib.Core.Path.{ap}
 use native.Mathlib.Omega.{arith}
 use lib.ListN.{length}
-use Rattle.tokens.proofs.Steps.{is_refused, goes_on, stops, test_held, within_bounds}
-use Rattle.tokens.specs.Answer.{extent_answer}
+use Rattle.tokens.proofs.Steps.{goes_on, stops, exits, bounds}
+use Rattle.tokens.specs.Answer.{map_ok}
 use Rattle.frame.specs.Wrap as Spec
 use Rattle.frame.proofs.wrap.framed_wrap_lead.Goals as goal
 
-pub returns-in_default : goal.returns-in_default
+pub returns-in_err-length : goal.returns-in_err-length
 unfolding Spec.wrap_lead
-returns-in_default c = ap (extent_answer length) (sym (stops _ _ _ c.length-sized.ensures c.by.ensures))
+returns-in_err-length c = exits _ _ c.from_residual.ensures.1 (ap (map_ok length) (stops _ _ _ c.length.ensures c.in_err-length.was))
+
+pub overflow_add-len : goal.overflow_add-len
+overflow_add-len c = omega (arith, bounds c.in_ok-length.was 0 32768 c.args.len c.length.ensures)
+
+pub width-requires : goal.width-requires
+width-requires c = omega (arith, bounds c.in_ok-length.was 0 32768 c.args.len c.length.ensures)
 
 pub returns : goal.returns
 unfolding Spec.wrap_lead
-returns c = rw (goes_on _ _ _ c.length-sized.ensures c.in-Done.is, c.width.ensures.0)
-
-pub by-requires : goal.by-requires
-by-requires c = is_refused c.in_default.is
-
-pub overflow_add-len : goal.overflow_add-len
-overflow_add-len c =
-    let sized : c.args.len ≤ 32768 = (within_bounds 0 32768 c.args.len (test_held _ _ (sym c.length-sized.ensures ∙ c.in-Done.is))).1 in
-    omega (arith, sized)
-
-pub width-requires : goal.width-requires
-width-requires c =
-    let sized : c.args.len ≤ 32768 = (within_bounds 0 32768 c.args.len (test_held _ _ (sym c.length-sized.ensures ∙ c.in-Done.is))).1 in
-    omega (arith, sized)
+returns c = rw (goes_on _ _ _ c.length.ensures c.in_ok-length.was, c.width.ensures.0)

@@ -1,7 +1,7 @@
 -- The test as the definition makes it.
 use mathlib.Core.Path.{◌≡◌, refl, ap, ◌∙◌}
 use mathlib.Core.Bool.{Bool, true, false}
-use Rattle.std.specs.Prelude.{⊤, Option, Ok, Err}
+use Rattle.std.specs.Prelude.{⊤, Option}
 use Rattle.std.specs.Bool.{then_some}
 use Rattle.std.specs.Option.{ok_or}
 use Rattle.tokens.specs.Answer.{tested}

@@ -2,16 +2,14 @@
 use Rattle.std.proofs.Common.{◌≡◌, ℕ, zero, suc, ◌+◌, ◌-◌, ◌%◌, ◌^◌, ◌<◌, ◌≤◌, Bool, true, false, cond, eqb, ◌⊎◌, List, [], ◌∷◌, length, sym, refl, ap, ◌∙◌, ap₂, inl, inr, arith, eqb-true}
 use lib.Bits.{bit_or}
 use borrow.Author.Tests.{eqb-false}
+use Rattle.std.specs.Prelude.{Ok, Err, Option, Some}
+use Rattle.tokens.specs.Answer.{Outcome}
 use Rattle.tokens.specs.Token.{sequence_numbers}
-use Rattle.tokens.specs.declared.answer.Sequence.{Sequence}
-use Rattle.tokens.specs.declared.answer.Sequence.TheVariants as sequence
 use Rattle.billing.specs.Clerk.{member, distances, next_expected, status_among, recorded, clerk_billed, clerk_status}
 use Rattle.billing.specs.Receive as Receive
 use Rattle.billing.specs.Session.{presented, window_after, status_after, billed_by, clerk_token_status, SequenceNumbers}
 use Rattle.billing.specs.Status.{distance, status_at, is_billed}
 use Rattle.billing.specs.Window.{new_window, is_marked, shifted, advanced, filled, place_of, status_in, after, step}
-use Rattle.billing.specs.declared.receive.TokenStatus.{TokenStatus}
-use Rattle.billing.specs.declared.receive.TokenStatus.TheVariants.{Of}
 use Rattle.billing.specs.declared.status.Status.{Status}
 use Rattle.billing.specs.declared.window.Window.{Window}
 use Rattle.billing.proofs.Cases.{Case, case_of, status_same, outside, in_order, gap, late, duplicate, old}
@@ -134,28 +132,28 @@ billed_numbers first [] numbers = tt
 billed_numbers first (n ∷ history) numbers =
     recorded_numbers (is_billed (status_among first (clerk_billed first history) n)) n (clerk_billed first history) numbers.0 (billed_numbers first history numbers.1)
 
-pub window_holds : (first : ℕ) (tokens : List Sequence) → SequenceNumbers (presented tokens)
+pub window_holds : (first : ℕ) (tokens : List (Outcome ℕ)) → SequenceNumbers (presented tokens)
     → Holds first (distances first (clerk_billed first (presented tokens))) (window_after first tokens)
 unfolding clerk_billed window_after presented
 window_holds first [] numbers = new_holds first
-window_holds first (sequence.Number n ∷ tokens) numbers =
+window_holds first (Ok n ∷ tokens) numbers =
     step_holds first (clerk_billed first (presented tokens)) (window_after first tokens) n numbers.0 (billed_numbers first (presented tokens) numbers.1)
     (window_holds first tokens numbers.1)
-window_holds first (sequence.Refused refusal ∷ tokens) numbers = window_holds first tokens numbers
+window_holds first (Err refusal ∷ tokens) numbers = window_holds first tokens numbers
 
-pub status_clerks : (first : ℕ) (tokens : List Sequence) → SequenceNumbers (presented tokens) → (token : Sequence) → SequenceNumbers (presented (token ∷ []))
+pub status_clerks : (first : ℕ) (tokens : List (Outcome ℕ)) → SequenceNumbers (presented tokens) → (token : Outcome ℕ) → SequenceNumbers (presented (token ∷ []))
     → status_after first tokens token ≡ clerk_token_status first (presented tokens) token
 unfolding clerk_status presented
-status_clerks first tokens numbers (sequence.Number n) fits =
-    ap Of (same_status first (clerk_billed first (presented tokens)) (window_after first tokens) n fits.0 (billed_numbers first (presented tokens) numbers)
+status_clerks first tokens numbers (Ok n) fits =
+    ap Some (same_status first (clerk_billed first (presented tokens)) (window_after first tokens) n fits.0 (billed_numbers first (presented tokens) numbers)
     (window_holds first tokens numbers))
-status_clerks first tokens numbers (sequence.Refused refusal) fits = refl
+status_clerks first tokens numbers (Err refusal) fits = refl
 
 -- the numbers that the window billed are those that the clerk billed
-pub billed_clerks : (first : ℕ) (tokens : List Sequence) → SequenceNumbers (presented tokens) → billed_by first tokens ≡ clerk_billed first (presented tokens)
+pub billed_clerks : (first : ℕ) (tokens : List (Outcome ℕ)) → SequenceNumbers (presented tokens) → billed_by first tokens ≡ clerk_billed first (presented tokens)
 unfolding billed_by clerk_billed clerk_status presented
 billed_clerks first [] numbers = refl
-billed_clerks first (sequence.Number n ∷ tokens) numbers =
-    ap₂ (λ (s : TokenStatus) (ns : List ℕ). cond (Receive.is_billed s) (n ∷ ns) ns)
-    (status_clerks first tokens numbers.1 (sequence.Number n) (numbers.0, tt)) (billed_clerks first tokens numbers.1)
-billed_clerks first (sequence.Refused refusal ∷ tokens) numbers = billed_clerks first tokens numbers
+billed_clerks first (Ok n ∷ tokens) numbers =
+    ap₂ (λ (s : Option Status) (ns : List ℕ). cond (Receive.is_billed s) (n ∷ ns) ns)
+    (status_clerks first tokens numbers.1 (Ok n) (numbers.0, tt)) (billed_clerks first tokens numbers.1)
+billed_clerks first (Err refusal ∷ tokens) numbers = billed_clerks first tokens numbers

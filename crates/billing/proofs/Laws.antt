@@ -1,9 +1,9 @@
 -- What a crate above may cite: what holds of every session, and of one step from any window.
 use Rattle.std.proofs.Common.{◌≡◌, ℕ, zero, suc, ◌<◌, ◌≤◌, false, List, [], ◌∷◌, map, reverse, get_or, sym, refl, ap, ◌∙◌, arith}
 use mathlib.Core.List.{reverse_aux}
+use Rattle.std.specs.Prelude.{Ok, Err}
+use Rattle.tokens.specs.Answer.{Outcome}
 use Rattle.tokens.specs.Token.{sequence_numbers}
-use Rattle.tokens.specs.declared.answer.Sequence.{Sequence}
-use Rattle.tokens.specs.declared.answer.Sequence.TheVariants as sequence
 use Rattle.billing.specs.Session.{presented, window_after, SequenceNumbers, distinct_numbers, BillsOnce}
 use Rattle.billing.specs.Status.{outside_from, distance, is_billed}
 use Rattle.billing.specs.Window.{is_marked, place_of, status_in, after, step}
@@ -16,7 +16,7 @@ use Rattle.billing.proofs.Follows as Follows
 
 -- ---- Every session
 
-pub bills_once : (first : ℕ) (tokens : List Sequence) → SequenceNumbers (presented tokens) → BillsOnce first tokens
+pub bills_once : (first : ℕ) (tokens : List (Outcome ℕ)) → SequenceNumbers (presented tokens) → BillsOnce first tokens
 unfolding window_after
 bills_once first tokens numbers =
     let history = presented tokens in
@@ -64,18 +64,18 @@ step_fits w n most = at (status_in w d) (case_of w.next (is_marked w.seen (place
     at s (old h g) = (refl, most)
 
 -- so in every session
-pub after_fits : (first : ℕ) (tokens : List Sequence) → ((window_after first tokens).first ≡ first) × ((window_after first tokens).next ≤ outside_from)
+pub after_fits : (first : ℕ) (tokens : List (Outcome ℕ)) → ((window_after first tokens).first ≡ first) × ((window_after first tokens).next ≤ outside_from)
 unfolding window_after
 after_fits first [] = (refl, omega arith)
-after_fits first (sequence.Number n ∷ tokens) =
+after_fits first (Ok n ∷ tokens) =
     let before = after_fits first tokens in
     let fits = step_fits (window_after first tokens) n before.1 in (fits.0 ∙ before.0, fits.1)
-after_fits first (sequence.Refused refusal ∷ tokens) = after_fits first tokens
+after_fits first (Err refusal ∷ tokens) = after_fits first tokens
 
 -- ---- A session of numbers
 
 -- tokens that all opened presented their numbers
-pub presented_numbers : (ns : List ℕ) → presented (map sequence.Number ns) ≡ ns
+pub presented_numbers : (ns : List ℕ) → presented (map Ok ns) ≡ ns
 unfolding presented
 presented_numbers [] = refl
 presented_numbers (n ∷ ns) = ap (◌∷◌ n) (presented_numbers ns)

@@ -2,15 +2,17 @@
 ghost use Rattle.std.specs.Prelude.{◌≡◌};
 ghost use Rattle.billing.specs.Status as Spec;
 
+use std::fmt;
+
 // Beside each, its name in RFC 2743, section 1.2.3, which has none for the last.
-#[derive(Clone, Copy)]
+#[derive(Clone, Copy, Debug, PartialEq, Eq)]
 pub enum Status {
-    InOrder, // GSS_S_COMPLETE
-    Gap, // GSS_S_GAP_TOKEN
-    Late, // GSS_S_UNSEQ_TOKEN
-    Duplicate, // GSS_S_DUPLICATE_TOKEN
-    Old, // GSS_S_OLD_TOKEN
-    Outside,
+    InOrder = 1, // GSS_S_COMPLETE
+    Gap = 2, // GSS_S_GAP_TOKEN
+    Late = 3, // GSS_S_UNSEQ_TOKEN
+    Duplicate = 4, // GSS_S_DUPLICATE_TOKEN
+    Old = 5, // GSS_S_OLD_TOKEN
+    Outside = 6,
 }
 
 impl Status {
@@ -18,27 +20,26 @@ impl Status {
     pub fn number(self) -> u32
         ensures { result ≡ Spec.number self }
     {
-        match self {
-            Status::InOrder => 1,
-            Status::Gap => 2,
-            Status::Late => 3,
-            Status::Duplicate => 4,
-            Status::Old => 5,
-            Status::Outside => 6,
-        }
+        self as u32
     }
 
     // Whether a number of this status is billed.
     pub fn is_billed(self) -> bool
         ensures { result ≡ Spec.is_billed self }
     {
-        match self {
-            Status::InOrder => true,
-            Status::Gap => true,
-            Status::Late => true,
-            Status::Duplicate => false,
-            Status::Old => false,
-            Status::Outside => false,
-        }
+        matches!(self, Status::InOrder | Status::Gap | Status::Late)
+    }
+}
+
+impl fmt::Display for Status {
+    fn fmt<W: fmt::Write>(&self, f: &mut fmt::Formatter<W>) -> fmt::Result {
+        f.write_str(match self {
+            Status::InOrder => "in order",
+            Status::Gap => "gap",
+            Status::Late => "late",
+            Status::Duplicate => "duplicate",
+            Status::Old => "old",
+            Status::Outside => "outside",
+        })
     }
 }

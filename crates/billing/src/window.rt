@@ -13,7 +13,7 @@ const MARKS: u32 = 64;
 
 // The session's first number, the next expected distance from it, the marks of the distances below that, and how many numbers were
 // billed. Bit k of `seen` is the mark of the distance next - 1 - k. Every value is legal.
-#[derive(Clone, Copy)]
+#[derive(Clone, Copy, Debug, PartialEq, Eq)]
 pub struct Window {
     pub first: u32,
     pub next: u32,
@@ -22,7 +22,7 @@ pub struct Window {
 }
 
 // The status of a number, and the window after it.
-#[derive(Clone, Copy)]
+#[derive(Clone, Copy, Debug, PartialEq, Eq)]
 pub struct Receipt {
     pub status: Status,
     pub window: Window,
@@ -32,10 +32,7 @@ pub struct Receipt {
 fn shifted(seen: u64, by: u32) -> u64
     ensures { result ≡ Spec.shifted seen by }
 {
-    if by < MARKS {
-        return (seen << by) | 1;
-    }
-    1
+    if by < MARKS { (seen << by) | 1 } else { 1 }
 }
 
 impl Window {
@@ -44,7 +41,7 @@ impl Window {
         ensures { result ≡ Spec.new_window first }
     {
         Window {
-            first: first,
+            first,
             next: 0,
             seen: 0,
             billed: 0,
@@ -56,11 +53,7 @@ impl Window {
         requires { place < 64 }
         ensures { result ≡ Spec.is_marked self.seen place }
     {
-        let seen = self.seen;
-        if (seen >> place) % 2 == 1 {
-            return true;
-        }
-        false
+        (self.seen >> place) % 2 == 1
     }
 
     // The window after the number at a distance, the next expected one or a higher one, is billed.
@@ -70,10 +63,10 @@ impl Window {
     {
         let more = distance - self.next + 1;
         Window {
-            first: self.first,
             next: distance + 1,
             seen: shifted(self.seen, more),
-            billed: std::num::wrapping_add_u64(self.billed, 1),
+            billed: self.billed.wrapping_add(1),
+            ..self
         }
     }
 
@@ -83,10 +76,9 @@ impl Window {
         ensures { result ≡ Spec.filled self place }
     {
         Window {
-            first: self.first,
-            next: self.next,
             seen: self.seen | (1 << place),
-            billed: std::num::wrapping_add_u64(self.billed, 1),
+            billed: self.billed.wrapping_add(1),
+            ..self
         }
     }
 
@@ -95,7 +87,7 @@ impl Window {
         ensures { result ≡ Spec.receipt status self }
     {
         Receipt {
-            status: status,
+            status,
             window: self,
         }
     }
@@ -106,7 +98,7 @@ impl Window {
         ensures { result ≡ Spec.step self sequence }
     {
         let next = self.next;
-        let distance = std::num::wrapping_sub_u32(sequence, self.first);
+        let distance = sequence.wrapping_sub(self.first);
         if OUTSIDE_FROM <= distance {
             return self.with(Status::Outside);
         }
@@ -133,8 +125,8 @@ impl Window {
     {
         let next = self.next;
         if MARKS <= next {
-            return MARKS - u64::count_ones(self.seen);
+            return MARKS - self.seen.count_ones();
         }
-        next - u64::count_ones(self.seen & ((1 << next) - 1))
+        next - (self.seen & ((1 << next) - 1)).count_ones()
     }
 }

@@ -1,26 +1,21 @@
 -- What the window's code computes, over plain numbers.
-use Rattle.std.proofs.Common.{◌≡◌, ℕ, ◌+◌, ◌-◌, ◌*◌, ◌%◌, ◌^◌, ◌<◌, ◌≤◌, sym, ap, ◌∙◌, mod-lt, mod-eq_of_lt, one-mul, arith, lit<, pow_pos, shl_exact}
+use Rattle.std.proofs.Common.{◌≡◌, ℕ, ◌-◌, ◌*◌, ◌%◌, ◌^◌, ◌<◌, ◌≤◌, sym, ap, ◌∙◌, mod-lt, mod-eq_of_lt, one-mul, arith, lit<, pow_pos, shl_exact}
 use lib.Bits.{bit_and, and_mask}
 use lib.Count.{ones, ones-le}
-use Rattle.tokens.specs.Token.{sequence_numbers}
 use Rattle.billing.specs.Status.{distance}
-use Rattle.billing.specs.Window.{is_marked, place_of, status_in, after, receipt, step_at, step, missing, in_use}
+use Rattle.billing.specs.Window.{is_marked, place_of, status_in, after, receipt, step, missing, in_use}
 use Rattle.billing.specs.declared.status.Status.{Status}
 use Rattle.billing.specs.declared.window.Window.{Window}
 use Rattle.billing.proofs.Cases.{Case, status_of}
 
--- what `wrapping_sub_u32` gives is the distance
-pub is_distance : (first n d : ℕ) → first < sequence_numbers → d < sequence_numbers → (d + first) % sequence_numbers ≡ n → d ≡ distance first n
-unfolding distance
-is_distance first n d hf hd e = omega arith
-
 -- a status by its case, and the window after it, are the step
-pub takes : (w : Window) (n d : ℕ) {s : Status} {v : Window} → d ≡ distance w.first n → Case w.next (is_marked w.seen (place_of w d)) d s
-    → v ≡ after s w d → receipt s v ≡ step w n
+pub takes : (w : Window) (n : ℕ) {s : Status} {v : Window} → Case w.next (is_marked w.seen (place_of w (distance w.first n))) (distance w.first n) s
+    → v ≡ after s w (distance w.first n) → receipt s v ≡ step w n
 unfolding step
-takes w n d {s} e case after_is =
+takes w n {s} case after_is =
+    let d = distance w.first n in
     let told : s ≡ status_in w d = sym (status_of w.next (is_marked w.seen (place_of w d)) d case) in
-    ap (receipt s) after_is ∙ ap (λ (t : Status). receipt t (after t w d)) told ∙ ap (step_at w) e
+    ap (receipt s) after_is ∙ ap (λ (t : Status). receipt t (after t w d)) told
 
 -- 1 moved up by fewer than 64 places
 pub one_moved : (k : ℕ) → k < 64 → 1 * 2 ^ k % 2 ^ 64 ≡ 2 ^ k

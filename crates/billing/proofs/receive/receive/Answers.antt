@@ -1,8 +1,8 @@
 -- A number takes a step, and a refusal leaves the window.
 use Rattle.billing.proofs.receive.receive.Goals as goal
 
-pub returns-in_default : goal.returns-in_default
-returns-in_default c = rw c.in_default.is
+pub returns-in-Ok : goal.returns-in-Ok
+returns-in-Ok c = rw (c.in-Ok.is, c.bill-status.ensures)
 
-pub returns : goal.returns
-returns c = rw (c.in-Number.is, c.bill-receipt.ensures)
+pub returns-in-Err : goal.returns-in-Err
+returns-in-Err c = rw c.in-Err.is

@@ -7,6 +7,6 @@ pub returns-then-by-lt-MARKS : goal.returns-then-by-lt-MARKS
 unfolding shifted
 returns-then-by-lt-MARKS c = simp (lt-ltb _ _ c.if-by-lt-MARKS.true)
 
-pub returns : goal.returns
+pub returns-else-by-lt-MARKS : goal.returns-else-by-lt-MARKS
 unfolding shifted
-returns c = simp (le-ltb _ _ c.if-by-lt-MARKS.false)
+returns-else-by-lt-MARKS c = simp (le-ltb _ _ c.if-by-lt-MARKS.false)

@@ -8,7 +8,7 @@ ghost use Rattle.tally.specs.Tally.{clerk_tally};
 use billing::window::Window;
 
 // How many of the numbers of a session are billed, and how many of the last sixty-four are missing.
-#[derive(Clone, Copy)]
+#[derive(Clone, Copy, Debug, PartialEq, Eq)]
 pub struct Tally {
     pub billed: u64,
     pub missing: u32,
@@ -19,12 +19,8 @@ pub fn bill_all(first: u32, numbers: &[u32]) -> Tally
     ensures { result ≡ clerk_tally first numbers.now }
 {
     let mut window = Window::new(first);
-    let mut i = 0;
-    while i < numbers.len() {
-        let receipt = window.bill(numbers[i]);
-        let after = receipt.window;
-        window = after;
-        i += 1;
+    for number in numbers {
+        window = window.bill(*number).window;
     }
     Tally {
         billed: window.billed,

@@ -1,10 +1,11 @@
--- After i numbers the window is the one of the session whose tokens present them; so its count and what it misses are the clerk's.
+-- After some numbers the window is the one of the session whose tokens present them; so its count and what it misses are the clerk's.
 use mathlib.Core.Path.{◌≡◌, sym, ap, ap₂, ◌∙◌}
 use mathlib.Core.List.{List, [], ◌∷◌, map, reverse, reverse-append}
 use Prim.Native.Nat.{ℕ, ◌+◌, ◌<◌}
 use native.Mathlib.Numerals.{add-one}
 use lib.ListN.{length, take, get_or}
 use lib.Seq.{take-suc, take_all}
+use Rattle.std.specs.Prelude.{Ok}
 use Rattle.billing.specs.Clerk.{clerk_billed, clerk_missing}
 use Rattle.billing.specs.Session.{presented, window_after, SequenceNumbers, distinct_numbers}
 use Rattle.billing.specs.Window.{step, missing as missing_in}
@@ -12,7 +13,6 @@ use Rattle.billing.specs.declared.window.Receipt.{Receipt}
 use Rattle.billing.specs.declared.window.Window.{Window}
 use Rattle.billing.proofs.Laws.{bills_once, presented_numbers, reversed_numbers}
 use Rattle.tokens.specs.Token.{sequence_numbers}
-use Rattle.tokens.specs.declared.answer.Sequence.TheVariants as sequence
 use Rattle.tally.specs.Tally.{clerk_tally}
 use Rattle.tally.specs.declared.Tally.{Tally}
 use borrow.Author.Rules.{rules}
@@ -24,7 +24,7 @@ one_more : (first : ℕ) (numbers : List ℕ) (i : ℕ) → i < length numbers
     → (step (window_after first (tokens_of (take i numbers))) (get_or numbers i 0)).window ≡ window_after first (tokens_of (take (i + 1) numbers))
 unfolding window_after
 one_more first numbers i h =
-    ap (λ (ns : List ℕ). window_after first (map sequence.Number ns))
+    ap (λ (ns : List ℕ). window_after first (map Ok ns))
     (sym (ap reverse (ap (λ (n : ℕ). take n numbers) (add-one i) ∙ take-suc numbers i 0 h) ∙ reverse-append (take i numbers) (get_or numbers i 0 ∷ [])))
 
 -- what a session comes to
@@ -39,23 +39,23 @@ counted first numbers fits =
     tally : ℕ → ℕ → Tally
     tally billed missing = record { billed = billed; missing = missing }
 
-pub loop-i-init : goal.loop-i-init
+pub loop-number-init : goal.loop-number-init
 unfolding window_after
-loop-i-init c = (search rules, c.new-window.ensures)
+loop-number-init c = c.new-window.ensures
 
-pub loop-i-preserved : goal.loop-i-preserved
-loop-i-preserved c =
-    let l = c.loop-i in
+pub loop-number-preserved : goal.loop-number-preserved
+loop-number-preserved c =
     let numbers = c.args.numbers.now in
-    let h : l.i < length numbers = search rules in (
-      search rules,
-      ap (λ (r : Receipt). r.window) c.bill-receipt.ensures ∙ ap (λ (w : Window). (step w (get_or numbers l.i 0)).window) l.invariant.1 ∙ one_more _ numbers l.i h,
-    )
+    let i = c.loop-number.number-index in
+    ap (λ (r : Receipt). r.window) c.bill.ensures
+    ∙ ap (λ (w : Window). (step w (get_or numbers i 0)).window) c.loop-number.invariant
+    ∙ one_more c.args.first numbers i c.loop-number-test.true
 
 pub returns : goal.returns
 returns c =
-    let l = c.loop-i in
     let numbers = c.args.numbers.now in
     let first = c.args.first in
-    let whole : l.window ≡ window_after first (tokens_of numbers) = l.invariant.1 ∙ ap (λ (ns : List ℕ). window_after first (tokens_of ns)) (take_all l.i numbers (search rules)) in
-    rw (c.missing.ensures, whole) (counted first numbers (λ i. (c.shared_slice_known-1.given i).fits))
+    let window = c.loop-number.window in
+    let whole : window ≡ window_after first (tokens_of numbers)
+    = c.loop-number.invariant ∙ ap (λ (ns : List ℕ). window_after first (tokens_of ns)) (take_all c.loop-number.number-index numbers c.loop-number-test.false) in
+    rw (c.missing.ensures, whole) (counted first numbers (λ i. search rules))

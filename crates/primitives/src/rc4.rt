@@ -3,7 +3,7 @@ ghost use Rattle.std.specs.Prelude.{◌≡◌, ◌<◌, length};
 ghost use Rattle.primitives.specs.Rc4 as Spec;
 
 use crate::limits;
-use crate::limits::Status;
+use crate::limits::LengthError;
 use std::num::wrapping_add_u8;
 
 // The octets S and the indices i and j.
@@ -12,13 +12,6 @@ pub struct Rc4 {
     pub s: [u8; 256],
     pub i: u8,
     pub j: u8,
-}
-
-// The cipher begun from a key, or a state of zeros where the key's length is refused.
-#[derive(Clone, Copy)]
-pub struct Begun {
-    pub status: Status,
-    pub state: Rc4,
 }
 
 // An octet as an index.
@@ -74,24 +67,11 @@ impl Rc4 {
     }
 
     // Begun from a key of 1 to 256 octets.
-    pub fn from_slice(key: &[u8]) -> Begun
+    pub fn from_slice(key: &[u8]) -> Result<Self, LengthError>
         ensures { result ≡ Spec.begun key.now }
     {
-        let status = limits::length_status(limits::LEAST_RC4_KEY, limits::MOST_RC4_KEY, key.len());
-        let Status::Done = status else {
-            return Begun {
-                status: status,
-                state: Rc4 {
-                    s: [0u8; 256],
-                    i: 0,
-                    j: 0,
-                },
-            };
-        };
-        Begun {
-            status: status,
-            state: key_schedule(key),
-        }
+        limits::length_status(limits::LEAST_RC4_KEY, limits::MOST_RC4_KEY, key.len())?;
+        Ok(key_schedule(key))
     }
 
     // The text under the keystream from here on, and the state where it stopped. `a` is the S[i] of the next octet, read before

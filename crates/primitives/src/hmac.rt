@@ -17,11 +17,7 @@ fn filled(key: &[u8]) -> [u8; 64]
     ensures { result ≡ Spec.filled key.now }
 {
     let mut block = [0u8; 64];
-    let mut i: usize = 0;
-    while i < key.len() {
-        block[i] = key[i];
-        i += 1;
-    }
+    block[..key.len()].copy_from_slice(key);
     block
 }
 
@@ -40,11 +36,9 @@ fn key_block(key: &[u8]) -> [u8; 64]
 fn xor_pad(pad: u8, block: [u8; 64]) -> [u8; 64]
     ensures { result ≡ Spec.xor_pad pad block }
 {
-    let mut padded = [0u8; 64];
-    let mut i: usize = 0;
-    while i < 64 {
-        padded[i] = block[i] ^ pad;
-        i += 1;
+    let mut padded = block;
+    for octet in padded.iter_mut() {
+        *octet ^= pad;
     }
     padded
 }
@@ -74,11 +68,9 @@ impl Hmac {
     pub fn update(self, part: &[u8]) -> Self
         ensures { result ≡ Spec.absorb self part.now }
     {
-        let inner = self.inner;
-        let outer = self.outer;
         Hmac {
-            inner: inner.update(part),
-            outer: outer,
+            inner: self.inner.update(part),
+            ..self
         }
     }
 
@@ -86,10 +78,8 @@ impl Hmac {
     pub fn finish(self) -> [u8; 16]
         ensures { result ≡ Spec.finished self }
     {
-        let inner = self.inner;
-        let outer = self.outer;
-        let digest = inner.finish();
-        outer.update(&digest).finish()
+        let digest = self.inner.finish();
+        self.outer.update(&digest).finish()
     }
 
     // The inner hash before the first octet of the text, under a key of sixteen octets.

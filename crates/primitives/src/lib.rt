@@ -7,7 +7,6 @@ pub mod hmac;
 pub mod limits;
 mod md4;
 mod md5;
-mod octets;
 pub mod rc4;
 pub mod whole;
 mod word;

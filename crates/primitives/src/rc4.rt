@@ -4,7 +4,7 @@ ghost use Rattle.primitives.specs.Rc4 as Spec;
 
 use crate::limits;
 use crate::limits::LengthError;
-use std::num::wrapping_add_u8;
+use std::array;
 
 // The octets S and the indices i and j.
 #[derive(Clone, Copy)]
@@ -14,24 +14,11 @@ pub struct Rc4 {
     pub j: u8,
 }
 
-// An octet as an index.
-fn index(x: u8) -> usize
-    ensures { (result ≡ x) × (result < 256) }
-{
-    x as usize
-}
-
 // The octets 0 to 255.
 fn up_to_256() -> [u8; 256]
     ensures { result ≡ Spec.up_to 256 }
 {
-    let mut s = [0u8; 256];
-    let mut n: usize = 0;
-    while n < 256 {
-        s[n] = n as u8;
-        n += 1;
-    }
-    s
+    array::from_fn(|n| n as u8)
 }
 
 // The state that a key gives. The key's octet at i mod its length is found by a count that starts again at its end.
@@ -40,22 +27,20 @@ fn key_schedule(key: &[u8]) -> Rc4
     ensures { result ≡ Spec.key_schedule key.now }
 {
     let mut s = up_to_256();
-    let mut j: usize = 0;
+    let mut j: u8 = 0;
     let mut k: usize = 0;
-    let mut i: usize = 0;
-    while i < 256 {
+    for i in 0..256 {
         let a = s[i];
-        j = (j + index(a) + index(key[k])) % 256;
-        let b = s[j];
-        s[i] = b;
-        s[j] = a;
+        j = j.wrapping_add(a).wrapping_add(key[k]);
+        let q = usize::from(j);
+        s[i] = s[q];
+        s[q] = a;
         k += 1;
         if k == key.len() {
             k = 0;
         }
-        i += 1;
     }
-    Rc4 { s: s, i: 0, j: 0 }
+    Rc4 { s, i: 0, j: 0 }
 }
 
 impl Rc4 {
@@ -82,24 +67,22 @@ impl Rc4 {
         let mut s = self.s;
         let mut i = self.i;
         let mut j = self.j;
-        let mut a = s[index(wrapping_add_u8(i, 1))];
-        let mut n: usize = 0;
-        while n < text.len() {
-            i = wrapping_add_u8(i, 1);
-            j = wrapping_add_u8(j, a);
-            let p = index(i);
-            let q = index(j);
+        let mut a = s[usize::from(i.wrapping_add(1))];
+        for octet in text.iter_mut() {
+            i = i.wrapping_add(1);
+            j = j.wrapping_add(a);
+            let p = usize::from(i);
+            let q = usize::from(j);
             let b = s[q];
-            let ahead = wrapping_add_u8(i, 1);
-            let c = s[index(ahead)];
+            let ahead = i.wrapping_add(1);
+            let c = s[usize::from(ahead)];
             s[p] = b;
             s[q] = a;
-            text[n] = text[n] ^ s[index(wrapping_add_u8(a, b))];
+            *octet ^= s[usize::from(a.wrapping_add(b))];
             if j != ahead {
                 a = c;
             }
-            n += 1;
         }
-        Rc4 { s: s, i: i, j: j }
+        Rc4 { s, i, j }
     }
 }

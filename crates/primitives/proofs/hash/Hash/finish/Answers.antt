@@ -18,4 +18,4 @@ returns c =
     let pad : take (c.zeros-end.result + 9) c.padding-pad.result ≡ padding n =
     ap₂ (λ (k : ℕ) (l : List ℕ). take (k + 9) l) c.zeros-end.ensures.0 c.padding-pad.ensures
     ∙ take_at (padding n) (replicate (63 - zeros n) 0) (zeros n + 9) (padding_length n) in
-    c.output.ensures ∙ ap (λ (h : Hash). output h.words) (c.update-last.ensures ∙ ap (absorb self) pad)
+    c.output.ensures ∙ ap (λ (h : Hash). output h.words) (c.update.ensures ∙ ap (absorb self) pad)

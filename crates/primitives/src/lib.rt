@@ -2,6 +2,7 @@
 // `hash`, `hmac` and `rc4` have the states of messages and texts that come in parts, of which every value is legal.
 #![tactic(auto)]
 
+mod compression;
 pub mod hash;
 pub mod hmac;
 pub mod limits;

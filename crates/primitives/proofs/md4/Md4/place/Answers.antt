@@ -1,7 +1,7 @@
 -- In each round the place is the one that is printed.
 use Rattle.std.proofs.Common.{◌≡◌, ℕ, ◌/◌, ◌<◌, sym, ap, ◌∙◌, subst, arith}
 use Rattle.primitives.proofs.md4.Places.{place_of, places, words_below}
-use Rattle.primitives.proofs.md4.place.Goals as goal
+use Rattle.primitives.proofs.md4.Md4.place.Goals as goal
 
 pub returns-in-0 : goal.returns-in-0
 returns-in-0 c = let n = c.args.n in (sym (places n (omega arith) ∙ ap (λ (r : ℕ). place_of r n) c.in-0.is), omega arith)
@@ -14,4 +14,4 @@ returns-in_default c =
     let n = c.args.n in
     let round : n / 16 ≡ 2 = omega arith in
     let e = sym (places n (omega arith) ∙ ap (λ (r : ℕ). place_of r n) round) in
-    rw c.requires.1 (e, subst (λ (k : ℕ). k < 16) (sym e) (words_below n (omega arith)))
+    rw c.args.self.now.order_printed (e, subst (λ (k : ℕ). k < 16) (sym e) (words_below n (omega arith)))

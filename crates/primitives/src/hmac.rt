@@ -44,6 +44,7 @@ fn xor_pad(pad: u8, block: [u8; 64]) -> [u8; 64]
 }
 
 // The hash after a key of sixteen octets as a block, xor a pad. Such a key needs no hashing.
+#[tactic(auto, using(crate::proofs::HmacParts::short_key), unfolding(crate::specs::Hmac::after_key))]
 fn after_key(pad: u8, key: [u8; 16]) -> Hash
     ensures { result ≡ Spec.after_key pad key }
 {
@@ -52,6 +53,7 @@ fn after_key(pad: u8, key: [u8; 16]) -> Hash
 
 impl Hmac {
     // Before the first octet of the text.
+    #[tactic(auto, unfolding(crate::specs::Hmac::begun, crate::specs::Hmac::after_key))]
     pub fn new(key: &[u8]) -> Self
         ensures { result ≡ Spec.begun key.now }
     {
@@ -65,6 +67,7 @@ impl Hmac {
     }
 
     // A part of the text more.
+    #[tactic(auto, unfolding(crate::specs::Hmac::absorb))]
     pub fn update(self, part: &[u8]) -> Self
         ensures { result ≡ Spec.absorb self part.now }
     {
@@ -75,6 +78,7 @@ impl Hmac {
     }
 
     // The code of what has been absorbed.
+    #[tactic(auto, unfolding(crate::specs::Hmac::finished))]
     pub fn finish(self) -> [u8; 16]
         ensures { result ≡ Spec.finished self }
     {

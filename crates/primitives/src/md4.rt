@@ -85,6 +85,7 @@ impl Compression for Md4 {
 }
 
 // One block.
+#[tactic(auto, unfolding(crate::specs::Md4::compress))]
 pub fn compress(w: Words, block: &[u8; 64]) -> Words
     ensures { result ≡ Spec.compress w block.now }
 {

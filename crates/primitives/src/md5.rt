@@ -104,6 +104,7 @@ impl Compression for Md5 {
 }
 
 // One block.
+#[tactic(auto, unfolding(crate::specs::Md5::compress))]
 pub fn compress(w: Words, block: &[u8; 64]) -> Words
     ensures { result ≡ Spec.compress w block.now }
 {

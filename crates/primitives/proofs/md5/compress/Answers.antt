@@ -6,7 +6,3 @@ use Rattle.primitives.proofs.md5.compress.Goals as goal
 pub invariant_of-compress : goal.invariant_of-compress
 unfolding Md5.addends Md5.shifts_by_round
 invariant_of-compress c = record { addends_printed = refl; shifts_printed = refl }
-
-pub returns : goal.returns
-unfolding Md5.compress
-returns c = c.compress.ensures

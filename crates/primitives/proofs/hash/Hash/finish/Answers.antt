@@ -5,11 +5,6 @@ use Rattle.primitives.specs.declared.hash.Hash.{Hash}
 use Rattle.primitives.proofs.Padding.{padding_length}
 use Rattle.primitives.proofs.hash.Hash.finish.Goals as goal
 
-pub slice_bounds-update-end : goal.slice_bounds-update-end
-slice_bounds-update-end c =
-    let size : length c.padding-pad.result ≡ 72 = search rules in
-    simp length-take (omega arith)
-
 pub returns : goal.returns
 unfolding finished
 returns c =

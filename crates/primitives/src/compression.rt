@@ -56,6 +56,7 @@ fn round<C: Compression>(tables: &C, n: usize, w: Words, block: &[u8; 64]) -> Wo
 }
 
 // All rounds on a block, and the sums with the words before.
+#[tactic(auto, unfolding(crate::specs::Word::operations))]
 pub fn compress<C: Compression>(tables: &C, w: Words, block: &[u8; 64]) -> Words
     ensures { result ≡ add_words w (operations C.step (16 * C.ROUNDS) w block.now) }
 {

@@ -86,6 +86,7 @@ fn padding(n: u64) -> [u8; 72]
 }
 
 // Section 3.5: the octets of the words, the lowest of each first.
+#[tactic(auto, using(crate::proofs::Padding::le_bytes_word), unfolding(crate::specs::Hash::output, crate::specs::Octets::little_endian))]
 fn output(w: Words) -> [u8; 16]
     ensures { result ≡ Spec.output w }
 {
@@ -113,6 +114,7 @@ impl Hash {
     }
 
     // After a first block, as `new` and `update` would leave it.
+    #[tactic(auto, using(crate::proofs::Parts::first_block))]
     pub fn of_block(algorithm: Algorithm, block: [u8; 64]) -> Self
         ensures { result ≡ Spec.absorb (Spec.begun algorithm) block }
     {
@@ -125,6 +127,7 @@ impl Hash {
     }
 
     // A part more. One that leaves room in the block only goes into it, and is spared the way through the loop of blocks.
+    #[tactic(auto, using(crate::proofs::Absorb::absorb_short))]
     pub fn update(self, part: &[u8]) -> Self
         ensures { result ≡ Spec.absorb self part.now }
     {

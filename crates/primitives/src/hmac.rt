@@ -22,6 +22,7 @@ fn filled(key: &[u8]) -> [u8; 64]
 }
 
 // The key as a block.
+#[tactic(auto, using(crate::proofs::Parts::finished_digest), unfolding(crate::specs::Hmac::key_block))]
 fn key_block(key: &[u8]) -> [u8; 64]
     ensures { result ≡ Spec.key_block key.now }
 {

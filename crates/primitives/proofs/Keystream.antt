@@ -8,10 +8,6 @@ use Rattle.primitives.proofs.Xor.{xor_back}
 
 -- ---- The key schedule
 
-pub up_to_more : (n : ℕ) → up_to (n + 1) ≡ up_to n ++ (n ∷ [])
-unfolding up_to
-up_to_more n = rw add-one
-
 pub up_to_length : (n : ℕ) → length (up_to n) ≡ n
 unfolding up_to
 up_to_length zero = refl

@@ -37,11 +37,9 @@ rotated x {s} range =
     let right : (32 - s % 32) % 32 ≡ 32 - s = omega arith in
     ap₂ (λ (i j : ℕ). bit_or ((x * 2 ^ i) % 2 ^ 32) (x / 2 ^ j)) left right
 
--- rotated by the amount that is picked, it is rotated by the one that is printed
-pub md4_turned : (n : ℕ) → n < 48 → {x y s : ℕ} → x ≡ y → s ≡ pick Md4.shifts_by_round n → std_rotate_left w32 x s ≡ rotate_left y (get_or Md4.shifts n 0)
-unfolding ShiftRule
-md4_turned n lt {x} {y} {s} e picked = ap₂ (std_rotate_left w32) e (picked ∙ md4_shift_rule n lt) ∙ rotated y (md4_shift_range n lt)
-
-pub md5_turned : (n : ℕ) → n < 64 → {x y s : ℕ} → x ≡ y → s ≡ pick Md5.shifts_by_round n → std_rotate_left w32 x s ≡ rotate_left y (get_or Md5.shifts n 0)
-unfolding ShiftRule
-md5_turned n lt {x} {y} {s} e picked = ap₂ (std_rotate_left w32) e (picked ∙ md5_shift_rule n lt) ∙ rotated y (md5_shift_range n lt)
+-- rotated by the amount that is picked, a word is rotated by the one that is printed
+module _ {count : ℕ} (table : List (List ℕ)) (printed : List ℕ) (rule : ShiftRule count table printed)
+    (range : (n : ℕ) → n < count → (0 < get_or printed n 0) × (get_or printed n 0 < 32)) where
+  pub turned : (n : ℕ) → n < count → {x y s : ℕ} → x ≡ y → s ≡ pick table n → std_rotate_left w32 x s ≡ rotate_left y (get_or printed n 0)
+  unfolding ShiftRule
+  turned n lt {x} {y} {s} e picked = ap₂ (std_rotate_left w32) e (picked ∙ rule n lt) ∙ rotated y (range n lt)

@@ -1,10 +1,10 @@
 -- What holds at the head of each loop of `rc4`: before its first turn, after one turn more, and at its end.
-use Rattle.std.proofs.Common.{◌≡◌, ℕ, zero, suc, ◌+◌, ◌%◌, ◌<◌, ◌≤◌, ◌⊎◌, List, [], ◌∷◌, ◌++◌, length, get_or, take, drop, set, sym, refl, ap, ◌∙◌, ap₂, inl, inr, append-nil, mod-eq_of_lt, add_comm, add-one, arith, length-set, length-take-le, take_all, drop-cons, get_or-set_other, get_or-take, take-suc, get_or-set_same}
+use Rattle.std.proofs.Common.{◌≡◌, ℕ, zero, suc, ◌+◌, ◌%◌, ◌<◌, ◌≤◌, ◌⊎◌, List, [], ◌∷◌, ◌++◌, length, get_or, take, drop, set, sym, refl, ap, ◌∙◌, ap₂, inl, inr, mod-eq_of_lt, add_comm, add-one, arith, length-set, length-take-le, take_all, drop-cons, get_or-set_other, get_or-take, take-suc, get_or-set_same}
 use native.Mathlib.Nat.{zero-mod, mod_self, mod-add-mod}
 use native.Mathlib.Decide.{ℕ_discrete}
-use lib.Seq.{get_or_at, set_at, append_snoc, take-length, drop-length}
+use lib.Seq.{get_or_at, set_at, append_snoc}
 use lib.Bits.{bit_xor}
-use Rattle.primitives.specs.Rc4.{state, swap, up_to, turn, turns, key_schedule, next, octet, after, apply, Applied}
+use Rattle.primitives.specs.Rc4.{state, swap, up_to, turn, turns, key_schedule, next, octet, after, apply}
 use Rattle.primitives.specs.declared.rc4.Rc4.{Rc4}
 use Rattle.primitives.proofs.Keystream.{up_to_length, turns_none, turns_more, after_none, after_more, apply_none, apply_length, apply_more}
 
@@ -186,15 +186,3 @@ module _ {st : Rc4} {text₀ text s : List ℕ} {i j a n : ℕ} (h : Applying st
         state_is = state_next ∙ sym (after_more st n);
         text_is = text_more _ (ap (bit_xor (get_or text n 0)) octet_next);
       }
-
-pub applying_done : {st : Rc4} {text₀ text s : List ℕ} {i j a n : ℕ} (self : Rc4) → st ≡ self → Applying st text₀ text s i j a n → length text ≤ n
-    → Applied self text₀ (state s i j) text
-applying_done {st} {text₀} {text} {s} {i} {j} {a} {n} self e h end =
-    let all : n ≡ length text₀ = omega (arith, h.text_length, h.within) in
-    record {
-      text_left = h.text_is
-          ∙ ap₂ (λ (z : Rc4) (m : ℕ). apply z (take m text₀) ++ drop m text₀) e all
-          ∙ ap₂ (λ (l r : List ℕ). apply self l ++ r) (take-length text₀) (drop-length text₀)
-          ∙ append-nil (apply self text₀);
-      state_on = h.state_is ∙ ap₂ after e all;
-    }

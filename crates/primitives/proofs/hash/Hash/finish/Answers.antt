@@ -1,5 +1,5 @@
 -- The first octets of the 72 that are laid out are the padding.
-use Rattle.std.proofs.Common.{◌≡◌, ℕ, ◌+◌, ◌-◌, List, length, take, replicate, ap, ◌∙◌, ap₂, arith, length-take, take_at, rules}
+use Rattle.std.proofs.Common.{◌≡◌, ℕ, ◌+◌, ◌-◌, List, take, replicate, ap, ◌∙◌, ap₂, take_at}
 use Rattle.primitives.specs.Hash.{zeros, padding, output, absorb, finished}
 use Rattle.primitives.specs.declared.hash.Hash.{Hash}
 use Rattle.primitives.proofs.Padding.{padding_length}

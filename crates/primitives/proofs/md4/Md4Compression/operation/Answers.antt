@@ -3,7 +3,7 @@ use Rattle.std.proofs.Common.{ℕ, ◌/◌, List, ap, ◌∙◌, ap₂, arith}
 use Rattle.primitives.specs.Word.{add, word_at, pick}
 use Rattle.primitives.specs.Md4 as Md4
 use Rattle.primitives.specs.declared.hash.Words.{Words}
-use Rattle.primitives.proofs.Shifts.{md4_turned}
+use Rattle.primitives.proofs.Shifts.{md4_shift_rule, md4_shift_range, turned}
 use Rattle.primitives.proofs.md4.Places.{addend_at}
 use Rattle.primitives.proofs.md4.Md4Compression.operation.Goals as goal
 
@@ -18,4 +18,4 @@ returns c =
     let sum = ap₂ add (ap₂ add (ap (add w.a) c.auxiliary.ensures) x) t in
     let amount = c.shift.ensures ∙ ap (λ (l : List (List ℕ)). pick l n) tables.shifts_printed in
     let next : ℕ → Words = λ b. record { a = w.d; b = b; c = w.b; d = w.c } in
-    ap next (c.rotate_left.ensures ∙ md4_turned n (omega arith) sum amount)
+    ap next (c.rotate_left.ensures ∙ turned Md4.shifts_by_round Md4.shifts md4_shift_rule md4_shift_range n (omega arith) sum amount)

@@ -3,7 +3,7 @@ use Rattle.std.proofs.Common.{ℕ, List, get_or, ap, ◌∙◌, ap₂, arith}
 use Rattle.primitives.specs.Word.{add, word_at, pick}
 use Rattle.primitives.specs.Md5 as Md5
 use Rattle.primitives.specs.declared.hash.Words.{Words}
-use Rattle.primitives.proofs.Shifts.{md5_turned}
+use Rattle.primitives.proofs.Shifts.{md5_shift_rule, md5_shift_range, turned}
 use Rattle.primitives.proofs.md5.Md5Compression.operation.Goals as goal
 
 pub returns : goal.returns
@@ -17,4 +17,4 @@ returns c =
     let sum = ap₂ add (ap₂ add (ap (add w.a) c.auxiliary.ensures) x) t in
     let amount = c.shift.ensures ∙ ap (λ (l : List (List ℕ)). pick l n) tables.shifts_printed in
     let next : ℕ → Words = λ b. record { a = w.d; b = b; c = w.b; d = w.c } in
-    ap next (ap (add w.b) (c.rotate_left-turned.ensures ∙ md5_turned n (omega arith) sum amount))
+    ap next (ap (add w.b) (c.rotate_left-turned.ensures ∙ turned Md5.shifts_by_round Md5.shifts md5_shift_rule md5_shift_range n (omega arith) sum amount))

@@ -32,16 +32,12 @@ pub struct Hash {
 }
 
 // Section 3.3: the words before the first block.
-fn initial() -> Words
-    ensures { result ≡ Spec.initial }
-{
-    Words {
-        a: 0x67452301,
-        b: 0xefcdab89,
-        c: 0x98badcfe,
-        d: 0x10325476,
-    }
-}
+const INITIAL: Words = Words {
+    a: 0x67452301,
+    b: 0xefcdab89,
+    c: 0x98badcfe,
+    d: 0x10325476,
+};
 
 // Section 3.4: one block.
 fn compress(algorithm: Algorithm, w: Words, block: &[u8; 64]) -> Words
@@ -107,7 +103,7 @@ impl Hash {
     {
         Hash {
             algorithm,
-            words: initial(),
+            words: INITIAL,
             block: [0u8; 64],
             count: 0,
         }
@@ -120,7 +116,7 @@ impl Hash {
     {
         Hash {
             algorithm,
-            words: compress(algorithm, initial(), &block),
+            words: compress(algorithm, INITIAL, &block),
             block,
             count: 64,
         }

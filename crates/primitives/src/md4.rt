@@ -33,7 +33,8 @@ fn aux_g(x: u32, y: u32, z: u32) -> u32
     (x & y) | (x & z) | (y & z)
 }
 
-// The auxiliary function of a round, the rounds counted from 0.
+// The auxiliary function of a round, the rounds counted from 0. A `match` lists them as the document does; closures would have to be
+// handed down to each operation.
 fn auxiliary(round: usize, x: u32, y: u32, z: u32) -> u32
     requires { round < 3 }
     ensures { result ≡ Spec.auxiliary round x y z }
@@ -46,7 +47,7 @@ fn auxiliary(round: usize, x: u32, y: u32, z: u32) -> u32
 }
 
 impl Md4 {
-    // Which word of the block operation n takes.
+    // Which word of the block operation n takes: a rule for each round, since a table would be read at each operation.
     fn place(&self, n: usize) -> usize
         requires { n < 48 }
         ensures { (result ≡ slice_index Spec.words n) × (result < 16) }

@@ -52,7 +52,8 @@ fn aux_i(x: u32, y: u32, z: u32) -> u32
     y ^ (x | !z)
 }
 
-// The auxiliary function of a round, the rounds counted from 0.
+// The auxiliary function of a round, the rounds counted from 0. A `match` lists them as the document does; closures would have to be
+// handed down to each operation.
 fn auxiliary(round: usize, x: u32, y: u32, z: u32) -> u32
     requires { round < 4 }
     ensures { result ≡ Spec.auxiliary round x y z }
@@ -65,7 +66,7 @@ fn auxiliary(round: usize, x: u32, y: u32, z: u32) -> u32
     }
 }
 
-// Which word of the block operation n takes.
+// Which word of the block operation n takes: a rule for each round, since a table would be read at each operation.
 fn place(n: usize) -> usize
     requires { n < 64 }
     ensures { (result ≡ slice_index Spec.words n) × (result < 16) }

@@ -2,7 +2,6 @@
 // the words before. RFC 1320 and RFC 1321, section 3.4.
 ghost use Rattle.std.specs.Prelude.{◌≡◌, ℕ, ◌+◌, ◌*◌, ◌<◌, ◌≤◌};
 ghost use Rattle.primitives.specs.Word.{Operation, operations, add_words, pick};
-ghost use Rattle.primitives.specs.declared.hash.Words.{Words as SpecWords};
 
 use crate::hash::Words;
 use crate::word;
@@ -36,7 +35,7 @@ pub fn shift<const ROUNDS: usize>(n: usize, shifts: &[[u32; 4]; ROUNDS]) -> u32
 // The four operations from n. One loop over all operations was tried in place of `four` and `round`: it takes twice the time.
 fn four<C: Compression>(tables: &C, n: usize, w: Words, block: &[u8; 64]) -> Words
     requires { n + 4 ≤ 16 * C.ROUNDS }
-    ensures { (o : SpecWords) → w ≡ operations C.step n o block.now → result ≡ operations C.step (n + 4) o block.now }
+    ensures { (o : Words) → w ≡ operations C.step n o block.now → result ≡ operations C.step (n + 4) o block.now }
 {
     let a = tables.operation(n, w, block);
     let b = tables.operation(n + 1, a, block);
@@ -47,7 +46,7 @@ fn four<C: Compression>(tables: &C, n: usize, w: Words, block: &[u8; 64]) -> Wor
 // The round of sixteen operations from n.
 fn round<C: Compression>(tables: &C, n: usize, w: Words, block: &[u8; 64]) -> Words
     requires { n + 16 ≤ 16 * C.ROUNDS }
-    ensures { (o : SpecWords) → w ≡ operations C.step n o block.now → result ≡ operations C.step (n + 16) o block.now }
+    ensures { (o : Words) → w ≡ operations C.step n o block.now → result ≡ operations C.step (n + 16) o block.now }
 {
     let a = four(tables, n, w, block);
     let b = four(tables, n + 4, a, block);

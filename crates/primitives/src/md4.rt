@@ -1,5 +1,5 @@
 // MD4's compression of one block: RFC 1320, section 3.4.
-ghost use Rattle.std.specs.Prelude.{◌≡◌, ◌<◌, [], ◌∷◌, take, drop, slice_index};
+ghost use Rattle.std.specs.Prelude.{◌≡◌, ◌<◌, [], ◌∷◌};
 ghost use Rattle.std.proofs.Common.{rules};
 ghost use Rattle.primitives.specs.Md4 as Spec;
 
@@ -13,17 +13,24 @@ struct Md4 {
     addends: [u32; 3],
     // The shift amounts: four for each round, used in turn.
     shifts: [[u32; 4]; 3],
-    // The order of the words in round 3.
-    order: [usize; 16],
+    // Which word of the block each operation takes.
+    words: [usize; 48],
     ghost addends_printed: { addends ≡ Spec.addend 0 ∷ Spec.addend 1 ∷ Spec.addend 2 ∷ [] },
     ghost shifts_printed: { shifts ≡ Spec.shifts_by_round },
-    ghost order_printed: { order ≡ take 16 (drop 32 Spec.words) },
+    ghost words_printed: { words ≡ Spec.words },
 }
 
 const MD4: Md4 = Md4 {
     addends: [0, 0x5a827999, 0x6ed9eba1],
     shifts: [[3, 7, 11, 19], [3, 5, 9, 13], [3, 9, 11, 15]],
-    order: [0, 8, 4, 12, 2, 10, 6, 14, 1, 9, 5, 13, 3, 11, 7, 15],
+    words: [
+        // Round 1.
+        0, 1, 2, 3, 4, 5, 6, 7, 8, 9, 10, 11, 12, 13, 14, 15,
+        // Round 2.
+        0, 4, 8, 12, 1, 5, 9, 13, 2, 6, 10, 14, 3, 7, 11, 15,
+        // Round 3.
+        0, 8, 4, 12, 2, 10, 6, 14, 1, 9, 5, 13, 3, 11, 7, 15,
+    ],
 };
 
 // G(X,Y,Z) = XY v XZ v YZ.
@@ -46,20 +53,6 @@ fn auxiliary(round: usize, x: u32, y: u32, z: u32) -> u32
     }
 }
 
-impl Md4 {
-    // Which word of the block operation n takes: a rule for each round, since a table would be read at each operation.
-    fn place(&self, n: usize) -> usize
-        requires { n < 48 }
-        ensures { (result ≡ slice_index Spec.words n) × (result < 16) }
-    {
-        match n / 16 {
-            0 => n % 16,
-            1 => n % 4 * 4 + n % 16 / 4,
-            _ => self.order[n % 16],
-        }
-    }
-}
-
 impl Compression for Md4 {
     ghost step = { Spec.operation };
 
@@ -74,7 +67,7 @@ impl Compression for Md4 {
         let sum = w
             .a
             .wrapping_add(auxiliary(round, w.b, w.c, w.d))
-            .wrapping_add(word::word_at(block, self.place(n)))
+            .wrapping_add(word::word_at(block, self.words[n]))
             .wrapping_add(self.addends[round]);
         Words {
             a: w.d,

@@ -1,5 +1,5 @@
 // MD5's compression of one block: RFC 1321, section 3.4.
-ghost use Rattle.std.specs.Prelude.{◌≡◌, ◌<◌, slice_index};
+ghost use Rattle.std.specs.Prelude.{◌≡◌, ◌<◌};
 ghost use Rattle.std.proofs.Common.{rules};
 ghost use Rattle.primitives.specs.Md5 as Spec;
 
@@ -13,8 +13,11 @@ struct Md5 {
     addends: [u32; 64],
     // The shift amounts: four for each round, used in turn.
     shifts: [[u32; 4]; 4],
+    // Which word of the block each operation takes.
+    words: [usize; 64],
     ghost addends_printed: { addends ≡ Spec.addends },
     ghost shifts_printed: { shifts ≡ Spec.shifts_by_round },
+    ghost words_printed: { words ≡ Spec.words },
 }
 
 const MD5: Md5 = Md5 {
@@ -35,6 +38,16 @@ const MD5: Md5 = Md5 {
         [5, 9, 14, 20],
         [4, 11, 16, 23],
         [6, 10, 15, 21],
+    ],
+    words: [
+        // Round 1.
+        0, 1, 2, 3, 4, 5, 6, 7, 8, 9, 10, 11, 12, 13, 14, 15,
+        // Round 2.
+        1, 6, 11, 0, 5, 10, 15, 4, 9, 14, 3, 8, 13, 2, 7, 12,
+        // Round 3.
+        5, 8, 11, 14, 1, 4, 7, 10, 13, 0, 3, 6, 9, 12, 15, 2,
+        // Round 4.
+        0, 7, 14, 5, 12, 3, 10, 1, 8, 15, 6, 13, 4, 11, 2, 9,
     ],
 };
 
@@ -66,19 +79,6 @@ fn auxiliary(round: usize, x: u32, y: u32, z: u32) -> u32
     }
 }
 
-// Which word of the block operation n takes: a rule for each round, since a table would be read at each operation.
-fn place(n: usize) -> usize
-    requires { n < 64 }
-    ensures { (result ≡ slice_index Spec.words n) × (result < 16) }
-{
-    match n / 16 {
-        0 => n % 16,
-        1 => (5 * n + 1) % 16,
-        2 => (3 * n + 5) % 16,
-        _ => 7 * n % 16,
-    }
-}
-
 impl Compression for Md5 {
     ghost step = { Spec.operation };
 
@@ -92,7 +92,7 @@ impl Compression for Md5 {
         let sum = w
             .a
             .wrapping_add(auxiliary(n / 16, w.b, w.c, w.d))
-            .wrapping_add(word::word_at(block, place(n)))
+            .wrapping_add(word::word_at(block, self.words[n]))
             .wrapping_add(self.addends[n]);
         let turned = sum.rotate_left(compression::shift(n, &self.shifts));
         Words {

@@ -1,5 +1,5 @@
 // The lengths that the calls take, and the error of a call that can refuse one.
-ghost use Rattle.std.specs.Prelude.{◌≡◌};
+ghost use Rattle.std.specs.Prelude.{◌≡◌, Some, codes};
 ghost use Rattle.primitives.specs.Limits.{length_status};
 
 use std::error::Error;
@@ -21,8 +21,10 @@ pub const MOST_RC4_KEY: usize = 256;
 pub struct LengthError;
 
 impl fmt::Display for LengthError {
+    ghost output = { λ _. Some (codes "a length is outside the limits") };
+
     fn fmt<W: fmt::Write>(&self, f: &mut fmt::Formatter<W>) -> fmt::Result {
-        write!(f, "a length is outside the limits")
+        f.write_str("a length is outside the limits")
     }
 }
 

@@ -13,6 +13,12 @@ unfolding absorb
 absorb_append h [] ys = refl
 absorb_append h (x ∷ xs) ys = absorb_append (put h x) xs ys
 
+-- nothing is left to absorb
+pub absorb_none : (h : Hash) (xs : List ℕ) → length xs ≡ 0 → h ≡ absorb h xs
+unfolding absorb
+absorb_none h [] e = refl
+absorb_none h (x ∷ xs) e = absurd (omega arith)
+
 -- a state that a run of the code can hold
 pub record Held (h : Hash) : Type 0 where
   pub count_below : h.count < 2 ^ 64
@@ -96,9 +102,15 @@ module _ (h : Hash) (s : List ℕ) (w : Held h) where
       ∙ ap (λ (t : Hash). put t (get_or s n 0)) (absorb_fill n (omega arith) (omega arith) ∙ ap (λ (v : Words). filled_to v n) (not_full n (omega arith)))
       ∙ put_one n (omega arith) (omega arith)
 
+  -- all of them
+  absorb_all : h.count % 64 + length s ≤ 64 → absorb h s ≡ filled_to (words_at (length s)) (length s)
+  absorb_all room = ap (absorb h) (sym (take-length s)) ∙ absorb_fill (length s) room (omega arith)
+
   -- all of them, where they leave room
   pub absorb_short : h.count % 64 + length s < 64 → absorb h s ≡ filled_to h.words (length s)
-  absorb_short room =
-      ap (absorb h) (sym (take-length s))
-      ∙ absorb_fill (length s) (omega arith) (omega arith)
-      ∙ ap (λ (v : Words). filled_to v (length s)) (not_full (length s) room)
+  absorb_short room = absorb_all (omega arith) ∙ ap (λ (v : Words). filled_to v (length s)) (not_full (length s) room)
+
+  -- all of them, and then others
+  pub absorb_turn : (after : List ℕ) → h.count % 64 + length s ≤ 64
+      → absorb (filled_to (words_at (length s)) (length s)) after ≡ absorb h (s ++ after)
+  absorb_turn after room = sym (absorb_append h s after ∙ ap (λ (t : Hash). absorb t after) (absorb_all room))

@@ -1,19 +1,12 @@
 -- The laws of RC4: the state, the keystream and the text from any place in the stream, and that octets stay octets.
-use Rattle.std.proofs.Common.{◌≡◌, ℕ, zero, suc, ◌+◌, ◌<◌, ◌≤◌, List, [], ◌∷◌, ◌++◌, length, get_or, set, replicate, refl, ap, ◌∙◌, ap₂, add-zero, add-suc, add-one, arith, length-append}
+use Rattle.std.proofs.Common.{◌≡◌, ℕ, zero, suc, ◌+◌, ◌<◌, ◌≤◌, List, [], ◌∷◌, ◌++◌, length, get_or, set, refl, ap, ◌∙◌, ap₂, add-zero, add-suc, add-one, arith, length-append}
 use lib.Bits.{bit_xor, xor_lt}
-use Rattle.primitives.specs.Limits.{least_rc4_key, most_rc4_key, length_status, given}
 use Rattle.primitives.specs.Octets.{Octets, xor_each}
-use Rattle.primitives.specs.Rc4.{state, swap, up_to, turn, turns, key_schedule, begun, next, octet, after, keystream, apply}
-use Rattle.primitives.specs.declared.limits.Status.{Status}
-use Rattle.primitives.specs.declared.rc4.Begun.{Begun}
+use Rattle.primitives.specs.Rc4.{state, swap, up_to, turn, turns, key_schedule, next, octet, after, keystream, apply}
 use Rattle.primitives.specs.declared.rc4.Rc4.{Rc4}
 use Rattle.primitives.proofs.Xor.{xor_back}
 
 -- ---- The key schedule
-
-pub up_to_more : (n : ℕ) → up_to (n + 1) ≡ up_to n ++ (n ∷ [])
-unfolding up_to
-up_to_more n = rw add-one
 
 pub up_to_length : (n : ℕ) → length (up_to n) ≡ n
 unfolding up_to
@@ -27,12 +20,6 @@ turns_none key = refl
 pub turns_more : (key : List ℕ) (n : ℕ) → turns key (n + 1) ≡ turn key n (turns key n)
 unfolding turns
 turns_more key n = rw add-one
-
--- a status and a state are the cipher begun from a key
-pub begun_is : (key : List ℕ) {s : Status} {st : Rc4} → s ≡ length_status least_rc4_key most_rc4_key (length key)
-    → st ≡ given s (key_schedule key) (state (replicate 256 0) 0 0) → ◌≡◌ {A = Begun} (record { status = s; state = st }) (begun key)
-unfolding begun
-begun_is key es est = rw (est, es)
 
 -- ---- The state
 

@@ -6,7 +6,6 @@ mod Choose
 mod Copy
 mod HmacParts
 mod Keystream
-mod LimitsLaws
 mod Padding
 mod Parts
 mod Rounds

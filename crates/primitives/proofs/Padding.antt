@@ -1,9 +1,10 @@
 -- The padding: its length, its number of bits from a count modulo 2^64, and how the code lays it out.
-use Rattle.std.proofs.Common.{◌≡◌, ℕ, zero, suc, ◌+◌, ◌-◌, ◌*◌, ◌/◌, ◌%◌, ◌^◌, ◌<◌, List, ◌∷◌, ◌++◌, length, drop, replicate, sym, refl, ap, ◌∙◌, ap₂, add-one, arith, lit<, length-append, take_all, drop-drop, take_at, drop_at}
-use native.Mathlib.Nat.{mul-div-mul_left}
+use Rattle.std.proofs.Common.{◌≡◌, ℕ, zero, suc, ◌+◌, ◌-◌, ◌*◌, ◌/◌, ◌%◌, ◌^◌, ◌<◌, List, ◌∷◌, ◌++◌, length, drop, replicate, sym, refl, ap, ◌∙◌, ap₂, add-one, arith, mul_comm, w32, w64, length-append, take_all, drop-drop, take_at, drop_at}
 use lib.Pow.{mod-mod-pow, field}
 use lib.ListN.{length-replicate, replicate-append-replicate}
 use lib.Seq.{paste}
+use Rattle.std.specs.Int.{to_le_bytes}
+use Rattle.std.proofs.Math.Nat.{div-div-eq-div-mul}
 use Rattle.primitives.specs.Octets.{little_endian}
 use Rattle.primitives.specs.Hash.{zeros, padding}
 
@@ -26,13 +27,19 @@ unfolding little_endian
 little_endian_length zero x = refl
 little_endian_length (suc n) x = ap suc (little_endian_length n (x / 256))
 
+-- the octets that std writes of a word, and of a number of 64 bits
+pub le_bytes_word : (x : ℕ) → to_le_bytes w32 x ≡ little_endian 4 x
+unfolding little_endian
+le_bytes_word x = simp div-div-eq-div-mul
+
+pub le_bytes_long : (x : ℕ) → to_le_bytes w64 x ≡ little_endian 8 x
+unfolding little_endian
+le_bytes_long x = simp div-div-eq-div-mul
+
 -- the number of bits of n octets, as the code finds it
-pub bits : (n : ℕ) → little_endian 8 (n % 2 ^ 61 * 8) ≡ little_endian 8 (8 * n)
+pub bits : (n : ℕ) → little_endian 8 (n * 8 % 2 ^ 64) ≡ little_endian 8 (8 * n)
 unfolding bits_of
-bits n =
-    let e : 8 * n / 2 ^ 64 ≡ n / 2 ^ 61 = mul-div-mul_left n (2 ^ 61) (lit< tt) in
-    let f : n % 2 ^ 61 * 8 ≡ 8 * n % 2 ^ 64 = omega arith in
-    ap (little_endian 8) f ∙ low_order 8 (8 * n)
+bits n = low_order 8 (n * 8) ∙ ap (little_endian 8) (mul_comm n 8)
 
 -- ---- The padding
 
@@ -45,7 +52,7 @@ pub padding_mod : (n : ℕ) → padding (n % 2 ^ 64) ≡ padding n
 unfolding padding
 padding_mod n =
     ap₂ (λ (k : ℕ) (l : List ℕ). 0x80 ∷ replicate ((119 - k) % 64) 0 ++ l) (mod-mod-pow n 58 6)
-    (sym (bits (n % 2 ^ 64)) ∙ ap (λ (k : ℕ). little_endian 8 (k * 8)) (mod-mod-pow n 3 61) ∙ bits n)
+    (sym (bits (n % 2 ^ 64)) ∙ ap (little_endian 8) (omega arith) ∙ bits n)
 
 -- ---- As the code lays it out, in 72 octets
 
@@ -65,7 +72,7 @@ zeros_split z h =
     ∙ replicate-append-replicate z (8 + (63 - z)) 0
     ∙ ap (λ (k : ℕ). replicate k 0) all
 
-pub laid_out : (n : ℕ) {i z : ℕ} {b : List ℕ} → i ≡ 8 → z ≡ zeros n → b ≡ little_endian 8 (n % 2 ^ 61 * 8)
+pub laid_out : (n : ℕ) {i z : ℕ} {b : List ℕ} → i ≡ 8 → z ≡ zeros n → b ≡ to_le_bytes w64 (n * 8 % 2 ^ 64)
     → paste (0x80 ∷ replicate 71 0) (z + 1) b i ≡ padding n ++ replicate (63 - zeros n) 0
 unfolding padding
 laid_out n {i} {z} {b} ei ez eb =
@@ -76,5 +83,5 @@ laid_out n {i} {z} {b} ei ez eb =
     let front : zeros n + 1 ≡ length p = add-one (zeros n) ∙ ap suc (sym (length-replicate (zeros n) 0)) in
     ap₂ (λ (k m : ℕ). paste (0x80 ∷ replicate 71 0) (k + 1) b m) ez (ei ∙ sym size)
     ∙ ap₂ (λ (l : List ℕ) (k : ℕ). paste (0x80 ∷ l) k b (length bit-octets)) (sym (zeros_split (zeros n) short)) front
-    ∙ ap (λ (l : List ℕ). paste (p ++ (replicate 8 0 ++ replicate (63 - zeros n) 0)) (length p) l (length bit-octets)) (eb ∙ bits n)
+    ∙ ap (λ (l : List ℕ). paste (p ++ (replicate 8 0 ++ replicate (63 - zeros n) 0)) (length p) l (length bit-octets)) (eb ∙ le_bytes_long (n * 8 % 2 ^ 64) ∙ bits n)
     ∙ replaced p (replicate 8 0) (replicate (63 - zeros n) 0) bit-octets (sym size)

@@ -8,13 +8,13 @@ abbrev pub aux_g : ℕ → ℕ → ℕ → ℕ
 aux_g x y z = bit_or (bit_or (bit_and x y) (bit_and x z)) (bit_and y z)
 
 -- the auxiliary function of each round, the rounds counted from 0
-unfoldable pub auxiliary : ℕ → ℕ → ℕ → ℕ → ℕ
+abbrev pub auxiliary : ℕ → ℕ → ℕ → ℕ → ℕ
 auxiliary zero x y z = aux_f x y z
 auxiliary (suc zero) x y z = aux_g x y z
 auxiliary (suc (suc round)) x y z = aux_h x y z
 
 -- the addend of each round: none in the first
-unfoldable pub addend : ℕ → ℕ
+abbrev pub addend : ℕ → ℕ
 addend zero = 0
 addend (suc zero) = 0x5a827999
 addend (suc (suc round)) = 0x6ed9eba1

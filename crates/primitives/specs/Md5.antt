@@ -12,7 +12,7 @@ abbrev pub aux_i : ℕ → ℕ → ℕ → ℕ
 aux_i x y z = bit_xor y (bit_or x (complement z))
 
 -- the auxiliary function of each round, the rounds counted from 0
-unfoldable pub auxiliary : ℕ → ℕ → ℕ → ℕ → ℕ
+abbrev pub auxiliary : ℕ → ℕ → ℕ → ℕ → ℕ
 auxiliary zero x y z = aux_f x y z
 auxiliary (suc zero) x y z = aux_g x y z
 auxiliary (suc (suc zero)) x y z = aux_h x y z

@@ -1,9 +1,8 @@
 -- RC4: the key schedule, the keystream from any state, and a text under it.
-use Rattle.std.specs.Prelude.{◌≡◌, ℕ, zero, suc, ◌+◌, ◌%◌, List, [], ◌∷◌, ◌++◌, length, replicate, slice_index, slice_set}
+use Rattle.std.specs.Prelude.{◌≡◌, ℕ, zero, suc, ◌+◌, ◌%◌, List, [], ◌∷◌, ◌++◌, length, slice_index, slice_set, Result}
 use Rattle.primitives.specs.Octets.{xor_each}
-use Rattle.primitives.specs.Limits.{least_rc4_key, most_rc4_key, length_status, given}
-use Rattle.primitives.specs.declared.limits.Status.{Status}
-use Rattle.primitives.specs.declared.rc4.Begun.{Begun}
+use Rattle.primitives.specs.Limits.{least_rc4_key, most_rc4_key, length_status, answer}
+use Rattle.primitives.specs.declared.limits.LengthError.{LengthError}
 use Rattle.primitives.specs.declared.rc4.Rc4.{Rc4}
 
 -- the state with the octets S and the indices i and j
@@ -37,13 +36,9 @@ turns key (suc n) = turn key n (turns key n)
 unfoldable pub key_schedule : List ℕ → Rc4
 key_schedule key = state (turns key 256).s 0 0
 
--- the status with a state: all zeros with a refusal
-abbrev pub begun_answer : Status → Rc4 → Begun
-begun_answer s st = record { status = s; state = given s st (state (replicate 256 0) 0 0) }
-
 -- the cipher begun from a key of any length
-unfoldable pub begun : List ℕ → Begun
-begun key = begun_answer (length_status least_rc4_key most_rc4_key (length key)) (key_schedule key)
+abbrev pub begun : List ℕ → Result Rc4 LengthError
+begun key = answer (length_status least_rc4_key most_rc4_key (length key)) (key_schedule key)
 
 -- ---- The keystream. Every value of the state is legal; of one that no key leads to the definitions say the same.
 

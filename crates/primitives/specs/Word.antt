@@ -27,8 +27,12 @@ abbrev pub word_at : List ℕ → ℕ → ℕ
 word_at block j =
     slice_index block (4 * j) + slice_index block (4 * j + 1) * 2 ^ 8 + slice_index block (4 * j + 2) * 2 ^ 16 + slice_index block (4 * j + 3) * 2 ^ 24
 
+-- a compression's operations: what each, by its number, makes of the words and a block
+abbrev pub Operation : Type 0
+Operation = ℕ → Words → List ℕ → Words
+
 -- the first n operations on a block, one after the other
-unfoldable pub operations : (ℕ → Words → List ℕ → Words) → ℕ → Words → List ℕ → Words
+unfoldable pub operations : Operation → ℕ → Words → List ℕ → Words
 operations operation zero w block = w
 operations operation (suc n) w block = operation n (operations operation n w block) block
 

@@ -3,8 +3,7 @@ ghost use Rattle.std.specs.Prelude.{◌≡◌, ◌+◌, ◌-◌, ◌<◌, ◌≤
 ghost use Rattle.std.proofs.Math.Seq.{paste};
 ghost use Rattle.primitives.specs.Hash as Spec;
 
-use crate::{md4, md5, octets};
-use std::num::wrapping_add_u64;
+use crate::{md4, md5};
 
 // Which compression a digest is made by; all else is the same for both.
 #[derive(Clone, Copy)]
@@ -33,16 +32,12 @@ pub struct Hash {
 }
 
 // Section 3.3: the words before the first block.
-fn initial() -> Words
-    ensures { result ≡ Spec.initial }
-{
-    Words {
-        a: 0x67452301,
-        b: 0xefcdab89,
-        c: 0x98badcfe,
-        d: 0x10325476,
-    }
-}
+const INITIAL: Words = Words {
+    a: 0x67452301,
+    b: 0xefcdab89,
+    c: 0x98badcfe,
+    d: 0x10325476,
+};
 
 // Section 3.4: one block.
 fn compress(algorithm: Algorithm, w: Words, block: &[u8; 64]) -> Words
@@ -54,42 +49,17 @@ fn compress(algorithm: Algorithm, w: Words, block: &[u8; 64]) -> Words
     }
 }
 
-// The 64 octets of `part` from `from`.
-fn whole_block(part: &[u8], from: usize) -> [u8; 64]
-    requires { from + 64 ≤ length part.now }
-    ensures { result ≡ take 64 (drop from part.now) }
+// The block with octets put in at `at`. A whole block is read without the old one.
+fn fill(block: [u8; 64], at: usize, octets: &[u8]) -> [u8; 64]
+    requires { at + length octets.now ≤ 64 }
+    ensures { result ≡ paste block at octets.now (length octets.now) }
 {
-    let mut block = [0u8; 64];
-    let mut i: usize = 0;
-    while i < 64 {
-        block[i] = part[from + i];
-        i += 1;
+    if let Ok(whole) = <[u8; 64]>::try_from(octets) {
+        return whole;
     }
-    block
-}
-
-// The lesser of two numbers.
-fn least(a: usize, b: usize) -> usize
-    ensures { result ≡ min a b }
-{
-    if a < b { a } else { b }
-}
-
-// The block with the n octets of `part` from `from` put in at `at`. A whole block is read without the old one.
-fn fill(block: [u8; 64], at: usize, part: &[u8], from: usize, n: usize) -> [u8; 64]
-    requires { (at + n ≤ 64) × (from + n ≤ length part.now) }
-    ensures { result ≡ paste block at (drop from part.now) n }
-{
-    if n == 64 {
-        return whole_block(part, from);
-    }
-    let mut b = block;
-    let mut i: usize = 0;
-    while i < n {
-        b[at + i] = part[from + i];
-        i += 1;
-    }
-    b
+    let mut filled = block;
+    filled[at..at + octets.len()].copy_from_slice(octets);
+    filled
 }
 
 // How many zeros the padding has.
@@ -103,26 +73,23 @@ fn zeros(n: u64) -> usize
 fn padding(n: u64) -> [u8; 72]
     ensures { result ≡ Spec.padding n ++ replicate (63 - Spec.zeros n) 0 }
 {
-    let bits = octets::eight(n % 0x2000_0000_0000_0000 * 8);
+    let bits = n.wrapping_mul(8).to_le_bytes();
     let at = zeros(n) + 1;
     let mut pad = [0u8; 72];
     pad[0] = 0x80;
-    let mut i: usize = 0;
-    while i < 8 {
-        pad[at + i] = bits[i];
-        i += 1;
-    }
+    pad[at..at + 8].copy_from_slice(&bits);
     pad
 }
 
 // Section 3.5: the octets of the words, the lowest of each first.
+#[tactic(auto, using(crate::proofs::Padding::le_bytes_word), unfolding(crate::specs::Hash::output, crate::specs::Octets::little_endian))]
 fn output(w: Words) -> [u8; 16]
     ensures { result ≡ Spec.output w }
 {
-    let a = octets::four(w.a);
-    let b = octets::four(w.b);
-    let c = octets::four(w.c);
-    let d = octets::four(w.d);
+    let a = w.a.to_le_bytes();
+    let b = w.b.to_le_bytes();
+    let c = w.c.to_le_bytes();
+    let d = w.d.to_le_bytes();
     [
         a[0], a[1], a[2], a[3], b[0], b[1], b[2], b[3], c[0], c[1], c[2], c[3], d[0], d[1], d[2],
         d[3],
@@ -135,41 +102,37 @@ impl Hash {
         ensures { result ≡ Spec.begun algorithm }
     {
         Hash {
-            algorithm: algorithm,
-            words: initial(),
+            algorithm,
+            words: INITIAL,
             block: [0u8; 64],
             count: 0,
         }
     }
 
     // After a first block, as `new` and `update` would leave it.
+    #[tactic(auto, using(crate::proofs::Parts::first_block))]
     pub fn of_block(algorithm: Algorithm, block: [u8; 64]) -> Self
         ensures { result ≡ Spec.absorb (Spec.begun algorithm) block }
     {
         Hash {
-            algorithm: algorithm,
-            words: compress(algorithm, initial(), &block),
-            block: block,
+            algorithm,
+            words: compress(algorithm, INITIAL, &block),
+            block,
             count: 64,
         }
     }
 
     // A part more. One that leaves room in the block only goes into it, and is spared the way through the loop of blocks.
+    #[tactic(auto, using(crate::proofs::Absorb::absorb_short))]
     pub fn update(self, part: &[u8]) -> Self
         ensures { result ≡ Spec.absorb self part.now }
     {
-        let algorithm = self.algorithm;
-        let words = self.words;
-        let block = self.block;
-        let count = self.count;
-        let at = (count % 64) as usize;
-        let n = part.len();
-        if n < 64 - at {
+        let at = (self.count % 64) as usize;
+        if part.len() < 64 - at {
             return Hash {
-                algorithm: algorithm,
-                words: words,
-                block: fill(block, at, part, 0, n),
-                count: wrapping_add_u64(count, n as u64),
+                block: fill(self.block, at, part),
+                count: self.count.wrapping_add(part.len() as u64),
+                ..self
             };
         }
         self.update_blocks(part)
@@ -179,37 +142,28 @@ impl Hash {
     fn update_blocks(self, part: &[u8]) -> Self
         ensures { result ≡ Spec.absorb self part.now }
     {
-        let algorithm = self.algorithm;
-        let mut words = self.words;
-        let mut block = self.block;
-        let mut count = self.count;
-        let mut i: usize = 0;
-        while i < part.len() {
-            let at = (count % 64) as usize;
-            let n = least(64 - at, part.len() - i);
-            block = fill(block, at, part, i, n);
-            if at + n == 64 {
-                words = compress(algorithm, words, &block);
+        let mut hash = self;
+        let mut rest = part;
+        while !rest.is_empty() {
+            let at = (hash.count % 64) as usize;
+            let (octets, after) = rest.split_at(rest.len().min(64 - at));
+            hash.block = fill(hash.block, at, octets);
+            let full = at + octets.len() == 64;
+            if full {
+                hash.words = compress(hash.algorithm, hash.words, &hash.block);
             }
-            count = wrapping_add_u64(count, n as u64);
-            i += n;
+            hash.count = hash.count.wrapping_add(octets.len() as u64);
+            rest = after;
         }
-        Hash {
-            algorithm: algorithm,
-            words: words,
-            block: block,
-            count: count,
-        }
+        hash
     }
 
     // The digest of what has been absorbed: the padding, and then the words' octets.
     pub fn finish(self) -> [u8; 16]
         ensures { result ≡ Spec.finished self }
     {
-        let n = self.count;
-        let pad = padding(n);
-        let end = zeros(n) + 9;
-        let last = self.update(&pad[..end]);
-        output(last.words)
+        let pad = padding(self.count);
+        let end = zeros(self.count) + 9;
+        output(self.update(&pad[..end]).words)
     }
 }

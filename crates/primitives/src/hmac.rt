@@ -17,15 +17,12 @@ fn filled(key: &[u8]) -> [u8; 64]
     ensures { result ≡ Spec.filled key.now }
 {
     let mut block = [0u8; 64];
-    let mut i: usize = 0;
-    while i < key.len() {
-        block[i] = key[i];
-        i += 1;
-    }
+    block[..key.len()].copy_from_slice(key);
     block
 }
 
 // The key as a block.
+#[tactic(auto, using(crate::proofs::Parts::finished_digest), unfolding(crate::specs::Hmac::key_block))]
 fn key_block(key: &[u8]) -> [u8; 64]
     ensures { result ≡ Spec.key_block key.now }
 {
@@ -40,16 +37,15 @@ fn key_block(key: &[u8]) -> [u8; 64]
 fn xor_pad(pad: u8, block: [u8; 64]) -> [u8; 64]
     ensures { result ≡ Spec.xor_pad pad block }
 {
-    let mut padded = [0u8; 64];
-    let mut i: usize = 0;
-    while i < 64 {
-        padded[i] = block[i] ^ pad;
-        i += 1;
+    let mut padded = block;
+    for octet in padded.iter_mut() {
+        *octet ^= pad;
     }
     padded
 }
 
 // The hash after a key of sixteen octets as a block, xor a pad. Such a key needs no hashing.
+#[tactic(auto, using(crate::proofs::HmacParts::short_key), unfolding(crate::specs::Hmac::after_key))]
 fn after_key(pad: u8, key: [u8; 16]) -> Hash
     ensures { result ≡ Spec.after_key pad key }
 {
@@ -58,6 +54,7 @@ fn after_key(pad: u8, key: [u8; 16]) -> Hash
 
 impl Hmac {
     // Before the first octet of the text.
+    #[tactic(auto, unfolding(crate::specs::Hmac::begun, crate::specs::Hmac::after_key))]
     pub fn new(key: &[u8]) -> Self
         ensures { result ≡ Spec.begun key.now }
     {
@@ -71,25 +68,23 @@ impl Hmac {
     }
 
     // A part of the text more.
+    #[tactic(auto, unfolding(crate::specs::Hmac::absorb))]
     pub fn update(self, part: &[u8]) -> Self
         ensures { result ≡ Spec.absorb self part.now }
     {
-        let inner = self.inner;
-        let outer = self.outer;
         Hmac {
-            inner: inner.update(part),
-            outer: outer,
+            inner: self.inner.update(part),
+            ..self
         }
     }
 
     // The code of what has been absorbed.
+    #[tactic(auto, unfolding(crate::specs::Hmac::finished))]
     pub fn finish(self) -> [u8; 16]
         ensures { result ≡ Spec.finished self }
     {
-        let inner = self.inner;
-        let outer = self.outer;
-        let digest = inner.finish();
-        outer.update(&digest).finish()
+        let digest = self.inner.finish();
+        self.outer.update(&digest).finish()
     }
 
     // The inner hash before the first octet of the text, under a key of sixteen octets.

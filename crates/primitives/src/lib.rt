@@ -2,12 +2,12 @@
 // `hash`, `hmac` and `rc4` have the states of messages and texts that come in parts, of which every value is legal.
 #![tactic(auto)]
 
+mod compression;
 pub mod hash;
 pub mod hmac;
 pub mod limits;
 mod md4;
 mod md5;
-mod octets;
 pub mod rc4;
 pub mod whole;
 mod word;

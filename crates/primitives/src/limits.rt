@@ -1,6 +1,9 @@
-// The lengths that the calls take, and the answer of a call that can refuse one.
-ghost use Rattle.std.specs.Prelude.{◌≡◌};
+// The lengths that the calls take, and the error of a call that can refuse one.
+ghost use Rattle.std.specs.Prelude.{◌≡◌, Some, codes};
 ghost use Rattle.primitives.specs.Limits.{length_status};
+
+use std::error::Error;
+use std::fmt;
 
 // The most octets to digest, or to run through RC4.
 pub const MOST_OCTETS: usize = 65536;
@@ -13,22 +16,27 @@ pub const LEAST_RC4_KEY: usize = 1;
 
 pub const MOST_RC4_KEY: usize = 256;
 
-// Whether a call is done. A length outside the limits is all that a call of this crate can refuse.
-#[derive(Clone, Copy)]
-pub enum Status {
-    Done,
-    Length,
+// A length outside the limits, which is all that a call of this crate can refuse.
+#[derive(Clone, Copy, Debug, PartialEq, Eq)]
+pub struct LengthError;
+
+impl fmt::Display for LengthError {
+    ghost output = { λ _. Some (codes "a length is outside the limits") };
+
+    fn fmt<W: fmt::Write>(&self, f: &mut fmt::Formatter<W>) -> fmt::Result {
+        f.write_str("a length is outside the limits")
+    }
 }
 
+impl Error for LengthError {}
+
 // Whether a length lies from `least` to `most`.
-pub fn length_status(least: usize, most: usize, n: usize) -> Status
+pub fn length_status(least: usize, most: usize, n: usize) -> Result<(), LengthError>
     ensures { result ≡ length_status least most n }
 {
-    if n < least {
-        return Status::Length;
+    if (least..=most).contains(&n) {
+        Ok(())
+    } else {
+        Err(LengthError)
     }
-    if most < n {
-        return Status::Length;
-    }
-    Status::Done
 }

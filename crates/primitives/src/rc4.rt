@@ -3,8 +3,8 @@ ghost use Rattle.std.specs.Prelude.{◌≡◌, ◌<◌, length};
 ghost use Rattle.primitives.specs.Rc4 as Spec;
 
 use crate::limits;
-use crate::limits::Status;
-use std::num::wrapping_add_u8;
+use crate::limits::LengthError;
+use std::array;
 
 // The octets S and the indices i and j.
 #[derive(Clone, Copy)]
@@ -14,55 +14,34 @@ pub struct Rc4 {
     pub j: u8,
 }
 
-// The cipher begun from a key, or a state of zeros where the key's length is refused.
-#[derive(Clone, Copy)]
-pub struct Begun {
-    pub status: Status,
-    pub state: Rc4,
-}
-
-// An octet as an index.
-fn index(x: u8) -> usize
-    ensures { (result ≡ x) × (result < 256) }
-{
-    x as usize
-}
-
 // The octets 0 to 255.
 fn up_to_256() -> [u8; 256]
     ensures { result ≡ Spec.up_to 256 }
 {
-    let mut s = [0u8; 256];
-    let mut n: usize = 0;
-    while n < 256 {
-        s[n] = n as u8;
-        n += 1;
-    }
-    s
+    array::from_fn(|n| n as u8)
 }
 
-// The state that a key gives. The key's octet at i mod its length is found by a count that starts again at its end.
+// The state that a key gives. The key's octet at i mod its length is found by a count that starts again at its end: `key[i % key.len()]`
+// was tried, and takes up to twice the time.
 fn key_schedule(key: &[u8]) -> Rc4
     requires { 0 < length key.now }
     ensures { result ≡ Spec.key_schedule key.now }
 {
     let mut s = up_to_256();
-    let mut j: usize = 0;
+    let mut j: u8 = 0;
     let mut k: usize = 0;
-    let mut i: usize = 0;
-    while i < 256 {
+    for i in 0..256 {
         let a = s[i];
-        j = (j + index(a) + index(key[k])) % 256;
-        let b = s[j];
-        s[i] = b;
-        s[j] = a;
+        j = j.wrapping_add(a).wrapping_add(key[k]);
+        let q = usize::from(j);
+        s[i] = s[q];
+        s[q] = a;
         k += 1;
         if k == key.len() {
             k = 0;
         }
-        i += 1;
     }
-    Rc4 { s: s, i: 0, j: 0 }
+    Rc4 { s, i: 0, j: 0 }
 }
 
 impl Rc4 {
@@ -74,24 +53,11 @@ impl Rc4 {
     }
 
     // Begun from a key of 1 to 256 octets.
-    pub fn from_slice(key: &[u8]) -> Begun
+    pub fn from_slice(key: &[u8]) -> Result<Self, LengthError>
         ensures { result ≡ Spec.begun key.now }
     {
-        let status = limits::length_status(limits::LEAST_RC4_KEY, limits::MOST_RC4_KEY, key.len());
-        let Status::Done = status else {
-            return Begun {
-                status: status,
-                state: Rc4 {
-                    s: [0u8; 256],
-                    i: 0,
-                    j: 0,
-                },
-            };
-        };
-        Begun {
-            status: status,
-            state: key_schedule(key),
-        }
+        limits::length_status(limits::LEAST_RC4_KEY, limits::MOST_RC4_KEY, key.len())?;
+        Ok(key_schedule(key))
     }
 
     // The text under the keystream from here on, and the state where it stopped. `a` is the S[i] of the next octet, read before
@@ -102,24 +68,22 @@ impl Rc4 {
         let mut s = self.s;
         let mut i = self.i;
         let mut j = self.j;
-        let mut a = s[index(wrapping_add_u8(i, 1))];
-        let mut n: usize = 0;
-        while n < text.len() {
-            i = wrapping_add_u8(i, 1);
-            j = wrapping_add_u8(j, a);
-            let p = index(i);
-            let q = index(j);
+        let mut a = s[usize::from(i.wrapping_add(1))];
+        for octet in text.iter_mut() {
+            i = i.wrapping_add(1);
+            j = j.wrapping_add(a);
+            let p = usize::from(i);
+            let q = usize::from(j);
             let b = s[q];
-            let ahead = wrapping_add_u8(i, 1);
-            let c = s[index(ahead)];
+            let ahead = i.wrapping_add(1);
+            let c = s[usize::from(ahead)];
             s[p] = b;
             s[q] = a;
-            text[n] = text[n] ^ s[index(wrapping_add_u8(a, b))];
+            *octet ^= s[usize::from(a.wrapping_add(b))];
             if j != ahead {
                 a = c;
             }
-            n += 1;
         }
-        Rc4 { s: s, i: i, j: j }
+        Rc4 { s, i, j }
     }
 }

@@ -1,36 +1,25 @@
 -- What holds at the head of each loop of `rc4`: before its first turn, after one turn more, and at its end.
-use Rattle.std.proofs.Common.{◌≡◌, ℕ, suc, ◌+◌, ◌%◌, ◌<◌, ◌≤◌, ◌⊎◌, List, [], ◌∷◌, ◌++◌, length, get_or, take, drop, set, sym, refl, ap, ◌∙◌, ap₂, inl, inr, append-nil, mod-eq_of_lt, add_comm, add-one, arith, length-set, length-take-le, take_all, drop-cons, get_or-set_other, take-suc, get_or-set_same, take-suc-set}
+use Rattle.std.proofs.Common.{◌≡◌, ℕ, zero, suc, ◌+◌, ◌%◌, ◌<◌, ◌≤◌, ◌⊎◌, List, [], ◌∷◌, ◌++◌, length, get_or, take, drop, set, sym, refl, ap, ◌∙◌, ap₂, inl, inr, mod-eq_of_lt, add_comm, add-one, arith, length-set, length-take-le, take_all, drop-cons, get_or-set_other, get_or-take, take-suc, get_or-set_same}
 use native.Mathlib.Nat.{zero-mod, mod_self, mod-add-mod}
 use native.Mathlib.Decide.{ℕ_discrete}
-use lib.Seq.{get_or_at, set_at, append_snoc, take-length, drop-length}
+use lib.Seq.{get_or_at, set_at, append_snoc}
 use lib.Bits.{bit_xor}
-use Rattle.primitives.specs.Rc4.{state, swap, up_to, turn, turns, key_schedule, next, octet, after, apply, Applied}
+use Rattle.primitives.specs.Rc4.{state, swap, up_to, turn, turns, key_schedule, next, octet, after, apply}
 use Rattle.primitives.specs.declared.rc4.Rc4.{Rc4}
-use Rattle.primitives.proofs.Keystream.{up_to_more, up_to_length, turns_none, turns_more, after_none, after_more, apply_none, apply_length, apply_more}
+use Rattle.primitives.proofs.Keystream.{up_to_length, turns_none, turns_more, after_none, after_more, apply_none, apply_length, apply_more}
 
--- ---- The loop of `up_to_256`: the first n places of S are filled
+-- ---- The octets 0 to 255
 
-pub record Filling (s : List ℕ) (n : ℕ) : Type 0 where
-  pub within : n ≤ 256
-  pub s_length : length s ≡ 256
-  pub filled : take n s ≡ up_to n
-
-pub filling_none : (s : List ℕ) → length s ≡ 256 → Filling s 0
+-- a list of n elements that has each number at its own place
+pub counted : (n : ℕ) (s : List ℕ) → length s ≡ n → ((i : ℕ) → i < n → get_or s i 0 ≡ i) → s ≡ up_to n
 unfolding up_to
-filling_none s h = record { within = omega arith; s_length = h; filled = refl }
-
-pub filling_more : {s : List ℕ} {n : ℕ} → Filling s n → n < 256 → Filling (set s n n) (n + 1)
-filling_more {s} {n} h lt =
-    record {
-      within = omega arith;
-      s_length = simp length-set h.s_length;
-      filled = rw (up_to_more, ← h.filled, add-one) (take-suc-set s n n (omega (arith, h.s_length)));
-    }
-
-pub filling_done : {s : List ℕ} {n : ℕ} → Filling s n → 256 ≤ n → s ≡ up_to 256
-filling_done {s} {n} h end =
-    let all : n ≡ 256 = omega (arith, h.within) in
-    sym (take_all n s (omega (arith, h.s_length))) ∙ h.filled ∙ ap up_to all
+counted zero [] size each = refl
+counted zero (x ∷ s) size each = absurd (omega arith)
+counted (suc n) s size each =
+    let front = counted n (take n s) (length-take-le n s (omega arith)) (λ i lt. get_or-take n s i 0 lt ∙ each i (omega arith)) in
+    sym (take_all (suc n) s (omega arith))
+    ∙ take-suc s n 0 (omega arith)
+    ∙ ap₂ (λ (l : List ℕ) (x : ℕ). l ++ (x ∷ [])) front (each n (omega arith))
 
 -- ---- The loop of `key_schedule`: the turns for 0 to i - 1 are done, and k is i modulo the key's length
 
@@ -185,7 +174,7 @@ module _ {st : Rc4} {text₀ text s : List ℕ} {i j a n : ℕ} (h : Applying st
       ∙ sym (append_snoc front (bit_xor x o) rest)
       ∙ ap (λ (l : List ℕ). l ++ rest) (sym more))
 
-  applying_more : Applying st text₀ (set text n (bit_xor (get_or text n 0) (get_or (set (set s i' b) j' a) k 0))) (set (set s i' b) j' a) i' j' a' (n + 1)
+  pub applying_more : Applying st text₀ (set text n (bit_xor (get_or text n 0) (get_or (set (set s i' b) j' a) k 0))) (set (set s i' b) j' a) i' j' a' (n + 1)
   applying_more =
       record {
         within = omega (arith, h.text_length);
@@ -197,22 +186,3 @@ module _ {st : Rc4} {text₀ text s : List ℕ} {i j a n : ℕ} (h : Applying st
         state_is = state_next ∙ sym (after_more st n);
         text_is = text_more _ (ap (bit_xor (get_or text n 0)) octet_next);
       }
-
--- the same where the code has i' and j' as the indices p and q
-module _ {st : Rc4} {text₀ text s : List ℕ} {i j a n : ℕ} (h : Applying st text₀ text s i j a n) (lt : n < length text)
-    (i' j' p q b k a' : ℕ) (ei : i' ≡ (i + 1) % 256) (ej : j' ≡ (j + a) % 256) (ep : p ≡ i') (eq : q ≡ j') (eb : b ≡ get_or s q 0) (ek : k ≡ (a + b) % 256)
-    (next-a : Ahead s ((i' + 1) % 256) j' a a') where
-  pub applying_indexed : Applying st text₀ (set text n (bit_xor (get_or text n 0) (get_or (set (set s p b) q a) k 0))) (set (set s p b) q a) i' j' a' (n + 1)
-  applying_indexed = rw (ep, eq) (applying_more h lt i' j' b k a' ei ej (eb ∙ ap (λ (x : ℕ). get_or s x 0) eq) ek next-a)
-
-pub applying_done : {st : Rc4} {text₀ text s : List ℕ} {i j a n : ℕ} (self : Rc4) → st ≡ self → Applying st text₀ text s i j a n → length text ≤ n
-    → Applied self text₀ (state s i j) text
-applying_done {st} {text₀} {text} {s} {i} {j} {a} {n} self e h end =
-    let all : n ≡ length text₀ = omega (arith, h.text_length, h.within) in
-    record {
-      text_left = h.text_is
-          ∙ ap₂ (λ (z : Rc4) (m : ℕ). apply z (take m text₀) ++ drop m text₀) e all
-          ∙ ap₂ (λ (l r : List ℕ). apply self l ++ r) (take-length text₀) (drop-length text₀)
-          ∙ append-nil (apply self text₀);
-      state_on = h.state_is ∙ ap₂ after e all;
-    }

@@ -1,9 +1,8 @@
--- The words after all rounds, added to those before.
-use Rattle.std.proofs.Common.{ap, ◌∙◌}
-use Rattle.primitives.specs.Word.{add_words}
-use Rattle.primitives.specs.Md5.{compress}
+-- The tables are those that are printed.
+use Rattle.std.proofs.Common.{refl}
+use Rattle.primitives.specs.Md5 as Md5
 use Rattle.primitives.proofs.md5.compress.Goals as goal
 
-pub returns : goal.returns
-unfolding compress
-returns c = c.add_words.ensures ∙ ap (add_words c.args.w) c.rounds.ensures
+pub invariant_of-compress : goal.invariant_of-compress
+unfolding Md5.addends Md5.shifts_by_round Md5.words
+invariant_of-compress c = record { addends_printed = refl; shifts_printed = refl; words_printed = refl }

@@ -1,14 +1,9 @@
 -- The first octets of the 72 that are laid out are the padding.
-use Rattle.std.proofs.Common.{◌≡◌, ℕ, ◌+◌, ◌-◌, List, length, take, replicate, ap, ◌∙◌, ap₂, arith, length-take, take_at, rules}
+use Rattle.std.proofs.Common.{◌≡◌, ℕ, ◌+◌, ◌-◌, List, take, replicate, ap, ◌∙◌, ap₂, take_at}
 use Rattle.primitives.specs.Hash.{zeros, padding, output, absorb, finished}
 use Rattle.primitives.specs.declared.hash.Hash.{Hash}
 use Rattle.primitives.proofs.Padding.{padding_length}
 use Rattle.primitives.proofs.hash.Hash.finish.Goals as goal
-
-pub slice_bounds-update-end : goal.slice_bounds-update-end
-slice_bounds-update-end c =
-    let size : length c.padding-pad.result ≡ 72 = search rules in
-    simp length-take (omega arith)
 
 pub returns : goal.returns
 unfolding finished
@@ -18,4 +13,4 @@ returns c =
     let pad : take (c.zeros-end.result + 9) c.padding-pad.result ≡ padding n =
     ap₂ (λ (k : ℕ) (l : List ℕ). take (k + 9) l) c.zeros-end.ensures.0 c.padding-pad.ensures
     ∙ take_at (padding n) (replicate (63 - zeros n) 0) (zeros n + 9) (padding_length n) in
-    c.output.ensures ∙ ap (λ (h : Hash). output h.words) (c.update-last.ensures ∙ ap (absorb self) pad)
+    c.output.ensures ∙ ap (λ (h : Hash). output h.words) (c.update.ensures ∙ ap (absorb self) pad)

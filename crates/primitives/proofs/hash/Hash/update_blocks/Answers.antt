@@ -1,49 +1,50 @@
--- After each turn the state is the one that the octets so far lead to; a turn fills the block as far as it has room.
-use Rattle.std.proofs.Common.{◌≡◌, ℕ, ◌+◌, ◌-◌, ◌%◌, ◌≤◌, min, Bool, cond, eqb, List, length, take, drop, sym, refl, ap, ◌∙◌, ap₂, arith, length-drop, take-add, rules, eq-eqb, ne_eqb}
-use lib.Seq.{paste, take-length, length-paste}
+-- A turn fills the block as far as it has room, and goes on with the rest.
+use Rattle.std.proofs.Common.{◌≡◌, ℕ, ◌+◌, ◌%◌, ◌^◌, ◌≤◌, List, ◌++◌, Bool, cond, eqb, length, sym, ap, ◌∙◌, ap₂, arith, take-append-drop, rules, eq-eqb, ne_eqb}
+use lib.Seq.{paste, length-paste}
 use Rattle.primitives.specs.Hash.{absorb, compress}
 use Rattle.primitives.specs.declared.hash.Words.{Words}
 use Rattle.primitives.specs.declared.hash.Hash.{Hash}
-use Rattle.primitives.proofs.Absorb.{absorb_append, absorb_fill}
-use Rattle.primitives.proofs.hash.Hash.update_blocks.Invariants.{made}
+use Rattle.primitives.proofs.Absorb.{absorb_none, absorb_turn}
 use Rattle.primitives.proofs.hash.Hash.update_blocks.Goals as goal
-use Rattle.primitives.proofs.hash.Hash.update_blocks.Goals.{then-at-n-eq64, else-at-n-eq64}
+use Rattle.primitives.proofs.hash.Hash.update_blocks.Goals.{then-full, else-full}
 
-pub loop-i-init : goal.loop-i-init
-unfolding absorb
-loop-i-init c = (search rules, record { count_below = search rules; block_length_lem = search rules }, refl)
-
-pub loop-i-preserved : goal.loop-i-preserved
-loop-i-preserved c =
-    let loop = c.loop-i in
-    let a = c.args in
-    let part = a.part.now in
-    let rest = drop loop.i part in
-    let n = c.least-n.result in
-    let g = a.self.algorithm in
-    let at = loop.count % 64 in
-    let h = made g loop.words loop.block loop.count in
-    let filled = c.fill-block.ensures in
-    let size : length loop.block ≡ 64 = loop.invariant.1.block_length_lem in
-    let least : n ≡ min (64 - at) (length part - loop.i) = c.least-n.ensures in
-    let room : at + n ≤ 64 = omega arith in
-    let more : n ≤ length rest = simp length-drop (omega arith) in
-    let next : Bool → Words = λ b. cond b (compress g loop.words (paste loop.block at rest n)) loop.words in
-    let words : c.if-at-n-eq64.words ≡ next (eqb (at + n) 64) =
-    elim c.if-at-n-eq64.branch [
-      | then-at-n-eq64 w ↦ w.words-is ∙ w.compress-words.ensures ∙ ap (compress g loop.words) filled ∙ ap next (sym (eq-eqb (at + n) 64 w.if-at-n-eq64.true))
-      | else-at-n-eq64 w ↦ w.words-is ∙ ap next (sym (ne_eqb (at + n) 64 w.if-at-n-eq64.false))
-    ] in (
-      omega arith,
-      record { count_below = search rules; block_length_lem = ap length filled ∙ length-paste loop.block at rest n (omega arith) more ∙ size },
-      rw (take-add loop.i n part, absorb_append)
-          (ap₂ (λ (w : Words) (b : List ℕ). made g w b c.wrapping_add_u64-count.result) words filled
-          ∙ ap (made g (next (eqb (at + n) 64)) (paste loop.block at rest n)) c.wrapping_add_u64-count.ensures.value
-          ∙ sym (absorb_fill h rest loop.invariant.1 n room more)
-          ∙ ap (λ (t : Hash). absorb t (take n rest)) loop.invariant.2),
-    )
+pub loop-rest-preserved : goal.loop-rest-preserved
+loop-rest-preserved c =
+    let h = c.loop-rest.hash in
+    let held = c.loop-rest.invariant.held in
+    let rest = c.loop-rest.rest.now in
+    let octets = c.split_at.result.0.now in
+    let after = c.split_at.result.1.now in
+    let n = length octets in
+    let split = c.split_at.ensures in
+    let least = c.min.ensures in
+    let room : h.count % 64 + n ≤ 64 = omega (arith, split.front_len) in
+    let block = c.fill-hash.result in
+    let filled = c.fill-hash.ensures in
+    let full : Bool = eqb (h.count % 64 + n) 64 in
+    -- the state with the block b, and after a turn that leaves the state t but for the count
+    let made : Bool → List ℕ → Hash = λ f b. record { algorithm = h.algorithm; words = cond f (compress h.algorithm h.words b) h.words; block = b; count = h.count } in
+    let counted : Hash → Hash = λ t. record { algorithm = t.algorithm; words = t.words; block = t.block; count = (t.count + n) % 2 ^ 64 } in
+    let after-block : Words → Hash = λ v. record { algorithm = h.algorithm; words = v; block = block; count = h.count } in
+    let turned : c.if-full.hash ≡ made full (paste h.block (h.count % 64) octets n) =
+    elim c.if-full.branch [
+      | then-full w ↦ w.hash-is ∙ ap after-block w.compress-hash.ensures ∙ ap (λ (f : Bool). made f block) (sym (eq-eqb (h.count % 64 + n) 64 w.if-full.true)) ∙ ap (made full) filled
+      | else-full w ↦ w.hash-is ∙ ap (λ (f : Bool). made f block) (sym (ne_eqb (h.count % 64 + n) 64 w.if-full.false)) ∙ ap (made full) filled
+    ] in
+    let joined : octets ++ after ≡ rest = ap₂ (λ (l r : List ℕ). l ++ r) split.front split.back ∙ take-append-drop _ rest in
+    record {
+      within = omega (arith, split.back_len);
+      held = record {
+        count_below = omega arith;
+        block_length_lem = ap (λ (t : Hash). length t.block) turned ∙ length-paste h.block (h.count % 64) octets n (omega (arith, held.block_length_lem)) (omega arith) ∙ held.block_length_lem;
+      };
+      absorbed = ap (λ (t : Hash). absorb (counted t) after) turned
+          ∙ absorb_turn h octets held after room
+          ∙ ap (absorb h) joined
+          ∙ c.loop-rest.invariant.absorbed;
+    }
 
 pub returns : goal.returns
 returns c =
-    let all : c.loop-i.i ≡ length c.args.part.now = omega arith in
-    rw (all, take-length) at c.loop-i.invariant.2
+    let none : length c.loop-rest.rest.now ≡ 0 = search rules in
+    absorb_none c.loop-rest.hash c.loop-rest.rest.now none ∙ c.loop-rest.invariant.absorbed

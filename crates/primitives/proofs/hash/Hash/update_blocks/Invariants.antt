@@ -1,17 +1,16 @@
--- After each turn the state is the one that the octets so far lead to; a turn fills the block as far as it has room.
-use Rattle.std.proofs.Common.{◌≡◌, ℕ, ◌-◌, ◌≤◌, List, length, take}
+-- What is left of the part leads from the state so far to what the whole part leads to.
+use Rattle.std.proofs.Common.{◌≡◌, ◌≤◌, length}
 use Rattle.primitives.specs.Hash.{absorb}
-use Rattle.primitives.specs.declared.hash.Algorithm.{Algorithm}
-use Rattle.primitives.specs.declared.hash.Words.{Words}
-use Rattle.primitives.specs.declared.hash.Hash.{Hash}
 use Rattle.primitives.proofs.Absorb.{Held}
 use Rattle.primitives.proofs.hash.Hash.update_blocks.Given as goal
 
-abbrev pub made : Algorithm → Words → List ℕ → ℕ → Hash
-made g w b n = record { algorithm = g; words = w; block = b; count = n }
+abbrev pub invariant-loop-rest : goal.invariant-loop-rest
+invariant-loop-rest l =
+    record {
+      within : length l.rest ≤ length l.part;
+      held : Held l.hash;
+      absorbed : absorb l.hash l.rest ≡ absorb l.initial.hash l.part;
+    }
 
-abbrev pub invariant-loop-i : goal.invariant-loop-i
-invariant-loop-i l = (l.i ≤ length l.part) × Held (made l.algorithm l.words l.block l.count) × (made l.algorithm l.words l.block l.count ≡ absorb (made l.algorithm l.initial.words l.initial.block l.initial.count) (take l.i l.part))
-
-abbrev pub decreases-loop-i : goal.decreases-loop-i
-decreases-loop-i l = length l.part - l.i
+abbrev pub decreases-loop-rest : goal.decreases-loop-rest
+decreases-loop-rest l = length l.rest

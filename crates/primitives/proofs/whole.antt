@@ -1,2 +1,0 @@
--- What more than one proof of `whole` cites.
-mod Answers

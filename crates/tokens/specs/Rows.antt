@@ -63,5 +63,5 @@ rows =
 
 -- each left side works out to its right side
 pub rows_hold : map (λ (r : Row). r.left) rows ≡ map (λ (r : Row). r.right) rows
-unfolding rows sequence_field sequence_octets direction salt type_octets message_type little_endian export_fill placed padding unicode string_to_key digest after_blocks output operations Md4.compress Md4.operation Md4.auxiliary Md4.addend Md4.words Md4.shifts
+unfolding rows sequence_field sequence_octets direction salt type_octets message_type little_endian export_fill placed padding unicode string_to_key digest after_blocks output operations Md4.compress Md4.operation Md4.words Md4.shifts
 rows_hold = refl

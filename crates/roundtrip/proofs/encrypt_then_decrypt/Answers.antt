@@ -8,11 +8,11 @@ use Rattle.roundtrip.proofs.Returned.{message_outward, message_returned}
 use borrow.Author.Rules.{rules}
 use Rattle.roundtrip.proofs.encrypt_then_decrypt.Goals as goal
 
-pub returns-in_default : goal.returns-in_default
-returns-in_default c =
+pub returns-in_err-written : goal.returns-in_err-written
+returns-in_err-written c =
     let a = c.args in
-    let call = c.encrypt-written.ensures in
-    message_outward a.key a.strength a.usage a.confounder a.buf.now a.start a.len call.answer call.buffer c.in_default.is
+    let call = c.encrypt.ensures in
+    message_outward a.key a.strength a.usage a.confounder a.buf.now a.start a.len call.answer call.buffer c.in_err-written.was c.from_residual.ensures.1
 
 pub returns : goal.returns
 returns c =
@@ -21,5 +21,5 @@ returns c =
     octet.fits in
     let bytes : Octets c.args.buf.now = λ i. (c.slice_known-1.given i).fits in
     let a = c.args in
-    let call = c.encrypt-written.ensures in
-    message_returned a.key a.strength a.usage a.confounder a.buf.now a.start a.len call.answer call.buffer eight confounder_octets bytes c.in-Octets.is c.decrypt.ensures.buffer c.decrypt.ensures.exact
+    let call = c.encrypt.ensures in
+    message_returned a.key a.strength a.usage a.confounder a.buf.now a.start a.len call.answer call.buffer eight confounder_octets bytes c.in_ok-written.was c.decrypt.ensures.buffer c.decrypt.ensures.exact

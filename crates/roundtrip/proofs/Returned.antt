@@ -4,7 +4,9 @@ use mathlib.Core.Bool.{Bool}
 use mathlib.Core.List.{List}
 use Prim.Native.Nat.{ℕ, ◌+◌, ◌≤◌, ◌<◌}
 use native.Mathlib.Omega.{arith}
-use lib.ListN.{length, length-take, length-drop}
+use mir.Syntax.{w8}
+use mir.Val.{Fits}
+use lib.ListN.{length, get_or, length-take, length-drop}
 use Rattle.std.specs.Prelude.{Ok, Err, IsErrAnd}
 use Rattle.primitives.specs.Octets.{Octets}
 use Rattle.frame.proofs.Laws.{frame_length, framed_mic_made, framed_wrap_made}
@@ -26,6 +28,10 @@ use Rattle.tokens.specs.declared.strength.Strength.{Strength}
 use Rattle.tokens.proofs.Laws.{never_zero, region_octets, placed_stands, placed_length, message_length_lem as encrypt_length, mic_length_lem, wrap_length_lem, message_made, mic_made, wrap_made}
 use Rattle.tokens.proofs.Steps.{exit_is}
 use Rattle.roundtrip.specs.Returns.{MessageReturns, MicReturns, WrapReturns, FramedWrapReturns}
+
+-- what is made of octets
+pub octets_of : (l : List ℕ) → ((i : ℕ) → Fits w8 (get_or l i 0)) → Octets l
+octets_of l each i = (each i).fits
 
 -- ---- What the writer left
 

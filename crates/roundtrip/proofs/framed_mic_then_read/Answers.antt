@@ -8,8 +8,8 @@ use Rattle.roundtrip.proofs.framed_mic_then_read.Goals as goal
 
 pub returns : goal.returns
 returns c =
-    let fits : c.args.sequence < sequence_numbers = search rules in
     let a = c.args in
+    let fits : a.sequence < sequence_numbers = search rules in
     let call = c.framed_mic_write.ensures in
     mic_returned (Mic.framed_mic_writing a.context a.sequence a.«data».now a.buf.now a.start) a.sequence a.buf.now a.start call.answer call.buffer (Mic.Written a.context a.«data».now a.sequence)
     (framed_mic_written a.context a.sequence a.«data».now a.buf.now a.start fits) c.in_ok-written.was (λ h. c.framed_mic_read.ensures.exact.always_then h a.sequence)

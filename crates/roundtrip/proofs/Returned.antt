@@ -26,12 +26,16 @@ use Rattle.tokens.specs.declared.answer.Unwrapped.{Unwrapped}
 use Rattle.tokens.specs.declared.context.Context.{Context}
 use Rattle.tokens.specs.declared.strength.Strength.{Strength}
 use Rattle.tokens.proofs.Laws.{never_zero, region_octets, placed_stands, placed_length, message_length_lem as encrypt_length, mic_length_lem, wrap_length_lem, message_made, mic_made, wrap_made}
-use Rattle.tokens.proofs.Steps.{exit_is}
 use Rattle.roundtrip.specs.Returns.{MessageReturns, MicReturns, WrapReturns, FramedWrapReturns}
 
 -- what is made of octets
 pub octets_of : (l : List ℕ) → ((i : ℕ) → Fits w8 (get_or l i 0)) → Octets l
 octets_of l each i = (each i).fits
+
+-- what a `?` returns
+exit_is : {A : Type 0} {q : Refusal} (answer : Outcome A) → IsErrAnd answer (λ e. e ≡ q) → answer ≡ Err q
+exit_is (Ok a) given = absurd given
+exit_is (Err r) given = ap Err given
 
 -- ---- What the writer left
 

@@ -12,7 +12,7 @@ ghost use Rattle.tokens.specs.Wrap as Wrap;
 ghost use Rattle.roundtrip.specs.Returns.{MessageReturns, MicReturns, WrapReturns, FramedWrapReturns};
 
 use frame::{mic as framed_mic, wrap as framed_wrap};
-use tokens::answer::{Extent, Sequence, Unwrapped};
+use tokens::answer::{Refusal, Unwrapped};
 use tokens::context::Context;
 use tokens::strength::Strength;
 use tokens::{message, mic, wrap};
@@ -26,14 +26,11 @@ pub fn encrypt_then_decrypt(
     buf: &mut [u8],
     start: usize,
     len: usize,
-) -> Extent
+) -> Result<usize, Refusal>
     ensures { MessageReturns key strength usage (Message.encryption key strength usage confounder buf.old start len) (Message.parts confounder (region (start + 24) len buf.old)) start buf.old result buf.new }
 {
-    let written = message::encrypt(key, strength, usage, confounder, buf, start, len);
-    let Extent::Octets(n) = written else {
-        return written;
-    };
-    message::decrypt(key, strength, usage, buf, start, n)
+    let written = message::encrypt(key, strength, usage, confounder, buf, start, len)?;
+    message::decrypt(key, strength, usage, buf, start, written)
 }
 
 // Writes the MIC token of a sequence number over the data, and reads it again.
@@ -43,13 +40,11 @@ pub fn mic_then_read(
     data: &[u8],
     buf: &mut [u8],
     start: usize,
-) -> Sequence
+) -> Result<u32, Refusal>
     ensures { MicReturns (Mic.mic_writing context sequence «data».now buf.old start) sequence start buf.old result buf.new }
 {
-    match mic::mic_write(context, sequence, data, buf, start) {
-        Extent::Octets(n) => mic::mic_read(context, data, buf, start, n),
-        Extent::Refused(refusal) => Sequence::Refused(refusal),
-    }
+    let written = mic::mic_write(context, sequence, data, buf, start)?;
+    mic::mic_read(context, data, buf, start, written)
 }
 
 // Writes the Wrap token of the `len` octets that stand 32 after `start`, and opens it again.
@@ -61,13 +56,11 @@ pub fn wrap_then_open(
     buf: &mut [u8],
     start: usize,
     len: usize,
-) -> Unwrapped
+) -> Result<Unwrapped, Refusal>
     ensures { WrapReturns context (Wrap.wrap_writing context sequence confounder sealed buf.old start len) (Wrap.parts sequence sealed confounder (region (start + 32) len buf.old)) start buf.old result buf.new }
 {
-    match wrap::wrap_write(context, sequence, confounder, sealed, buf, start, len) {
-        Extent::Octets(n) => wrap::wrap_open(context, buf, start, n),
-        Extent::Refused(refusal) => Unwrapped::Refused(refusal),
-    }
+    let written = wrap::wrap_write(context, sequence, confounder, sealed, buf, start, len)?;
+    wrap::wrap_open(context, buf, start, written)
 }
 
 // Writes the framed MIC token of a sequence number over the data, and reads it again.
@@ -77,13 +70,11 @@ pub fn framed_mic_then_read(
     data: &[u8],
     buf: &mut [u8],
     start: usize,
-) -> Sequence
+) -> Result<u32, Refusal>
     ensures { MicReturns (framed_mic_writing context sequence «data».now buf.old start) sequence start buf.old result buf.new }
 {
-    match framed_mic::framed_mic_write(context, sequence, data, buf, start) {
-        Extent::Octets(n) => framed_mic::framed_mic_read(context, data, buf, start, n),
-        Extent::Refused(refusal) => Sequence::Refused(refusal),
-    }
+    let written = framed_mic::framed_mic_write(context, sequence, data, buf, start)?;
+    framed_mic::framed_mic_read(context, data, buf, start, written)
 }
 
 // Writes the framed Wrap token of the `len` octets that stand where it has its message, and opens it again.
@@ -95,11 +86,11 @@ pub fn framed_wrap_then_open(
     buf: &mut [u8],
     start: usize,
     len: usize,
-) -> Unwrapped
+) -> Result<Unwrapped, Refusal>
     ensures { FramedWrapReturns context (framed_wrap_writing context sequence confounder sealed buf.old start len) (Wrap.parts sequence sealed confounder (region (framed_message_at start len) len buf.old)) start buf.old result buf.new }
 {
-    match framed_wrap::framed_wrap_write(context, sequence, confounder, sealed, buf, start, len) {
-        Extent::Octets(n) => framed_wrap::framed_wrap_open(context, buf, start, n),
-        Extent::Refused(refusal) => Unwrapped::Refused(refusal),
-    }
+    let written = framed_wrap::framed_wrap_write(
+        context, sequence, confounder, sealed, buf, start, len,
+    )?;
+    framed_wrap::framed_wrap_open(context, buf, start, written)
 }

@@ -6,16 +6,16 @@ use Rattle.roundtrip.proofs.Returned.{mic_outward, mic_returned, mic_written}
 use borrow.Author.Rules.{rules}
 use Rattle.roundtrip.proofs.mic_then_read.Goals as goal
 
-pub returns-in-Octets : goal.returns-in-Octets
-returns-in-Octets c =
-    let fits : c.args.sequence < sequence_numbers = search rules in
+pub returns : goal.returns
+returns c =
     let a = c.args in
+    let fits : a.sequence < sequence_numbers = search rules in
     let call = c.mic_write.ensures in
     mic_returned (Mic.mic_writing a.context a.sequence a.«data».now a.buf.now a.start) a.sequence a.buf.now a.start call.answer call.buffer (Mic.Written a.context a.«data».now a.sequence)
-    (mic_written a.context a.sequence a.«data».now a.buf.now a.start fits) c.in-Octets.is (λ h. c.mic_read.ensures.exact.always_then h a.sequence)
+    (mic_written a.context a.sequence a.«data».now a.buf.now a.start fits) c.in_ok-written.was (λ h. c.mic_read.ensures.exact.always_then h a.sequence)
 
-pub returns-in-Refused : goal.returns-in-Refused
-returns-in-Refused c =
+pub returns-in_err-written : goal.returns-in_err-written
+returns-in_err-written c =
     let a = c.args in
     let call = c.mic_write.ensures in
-    mic_outward (Mic.mic_writing a.context a.sequence a.«data».now a.buf.now a.start) a.sequence a.buf.now a.start call.answer call.buffer c.in-Refused.is
+    mic_outward (Mic.mic_writing a.context a.sequence a.«data».now a.buf.now a.start) a.sequence a.buf.now a.start call.answer call.buffer c.in_err-written.was c.from_residual.ensures.1

@@ -1,12 +1,10 @@
 -- The answers of the C interface: the number that a call answers, and what it leaves behind each pointer, zeros with a refusal.
 use Rattle.std.specs.Prelude.{◌≡◌, Bool, true, false, cond, List, [], ◌∷◌, ℕ}
+use Rattle.std.specs.Result.{result_unwrap_or}
 use Rattle.billing.specs.Receive.{number, is_billed}
 use Rattle.billing.specs.declared.receive.Received.{Received}
 use Rattle.billing.specs.declared.window.Window.{Window}
-use Rattle.tokens.specs.Answer.{status_number, extent_number, extent_octets, sequence_refusal, sequence_number, unwrapped_number, unwrapped_sequence, unwrapped_sealed, unwrapped_length}
-use Rattle.tokens.specs.declared.answer.Digest.{Digest}
-use Rattle.tokens.specs.declared.answer.Extent.{Extent}
-use Rattle.tokens.specs.declared.answer.Sequence.{Sequence}
+use Rattle.tokens.specs.Answer.{Outcome, status_number, unwrapped_sequence, unwrapped_sealed, unwrapped_length}
 use Rattle.tokens.specs.declared.answer.Unwrapped.{Unwrapped}
 
 -- yes is 1, and no is 0
@@ -14,24 +12,14 @@ abbrev pub flag_number : Bool → ℕ
 flag_number true = 1
 flag_number false = 0
 
--- a key or a checksum handed out: the number of its status, and its octets
-pub record DigestOut (digest : Digest) (answer : ℕ) (out : List ℕ) : Type 0 where
-  pub refusal : answer ≡ status_number digest.status
-  pub octets : out ≡ digest.octets
-
--- a number of octets
-pub record ExtentOut (extent : Extent) (answer out : ℕ) : Type 0 where
-  pub refusal : answer ≡ extent_number extent
-  pub octets : out ≡ extent_octets extent
-
--- a sequence number
-pub record SequenceOut (sequence : Sequence) (answer out : ℕ) : Type 0 where
-  pub refusal : answer ≡ sequence_refusal sequence
-  pub number : out ≡ sequence_number sequence
+-- a value handed out: the number of the refusal, 0 when done, and the value, or another with a refusal
+pub record ValueOut {A : Type 0} (value : Outcome A) (otherwise : A) (answer : ℕ) (out : A) : Type 0 where
+  pub refusal : answer ≡ status_number value
+  pub value_is : out ≡ result_unwrap_or value otherwise
 
 -- what a Wrap token holds
-pub record UnwrappedOut (unwrapped : Unwrapped) (answer sequence sealed length : ℕ) : Type 0 where
-  pub refusal : answer ≡ unwrapped_number unwrapped
+pub record UnwrappedOut (unwrapped : Outcome Unwrapped) (answer sequence sealed length : ℕ) : Type 0 where
+  pub refusal : answer ≡ status_number unwrapped
   pub sequence_is : sequence ≡ unwrapped_sequence unwrapped
   pub sealed_is : sealed ≡ flag_number (unwrapped_sealed unwrapped)
   pub length_is : length ≡ unwrapped_length unwrapped

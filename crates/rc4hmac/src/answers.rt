@@ -1,101 +1,69 @@
 // The answers of the calls as C sees them: the number of a refusal, and the values behind pointers, zeros with a refusal.
-ghost use Rattle.std.specs.Prelude.{◌≡◌};
+ghost use Rattle.std.specs.Prelude.{◌≡◌, replicate};
 ghost use Rattle.tokens.specs.Answer.{status_number};
-ghost use Rattle.rc4hmac.specs.Answers.{flag_number, window_words, DigestOut, ExtentOut, SequenceOut, UnwrappedOut, ReceivedOut};
+ghost use Rattle.rc4hmac.specs.Answers.{window_words, ValueOut, UnwrappedOut, ReceivedOut};
+ghost use Rattle.rc4hmac.specs.Primitives.{outcome};
 
 use billing::receive::Received;
+use billing::status::Status;
 use billing::window::Window;
-use tokens::answer::{Digest, Extent, Sequence, Status, Unwrapped};
+use primitives::limits::LengthError;
+use tokens::answer::{Refusal, Unwrapped};
 
-// The number of a status.
-pub fn status_number(status: Status) -> u32
-    ensures { result ≡ status_number status }
+// The number of the refusal, or 0.
+pub fn status_number<T>(answer: &Result<T, Refusal>) -> u32
+    ensures { result ≡ status_number answer.now }
 {
-    match status {
-        Status::Done => 0,
-        Status::Refused(refusal) => refusal.number(),
+    match answer {
+        Ok(_) => 0,
+        Err(refusal) => refusal.number(),
     }
 }
 
-// A key or a checksum goes out: its octets into the caller's, and the number of its status.
-pub fn digest_out(answer: Digest, out: &mut [u8; 16]) -> u32
-    ensures { DigestOut answer result out.new }
-{
-    let octets = answer.octets;
-    *out = octets;
-    let status = answer.status;
-    status_number(status)
-}
-
-// A number of octets goes out, zero with a refusal.
-pub fn extent_out(answer: Extent, out: &mut usize) -> u32
-    ensures { ExtentOut answer result out.new }
+// A value goes out, or `otherwise` with a refusal.
+pub fn value_out<T: Copy>(answer: Result<T, Refusal>, otherwise: T, out: &mut T) -> u32
+    ensures { ValueOut answer otherwise result out.new }
 {
     match answer {
-        Extent::Octets(n) => {
-            *out = n;
+        Ok(value) => {
+            *out = value;
             0
         }
-        Extent::Refused(refusal) => {
-            *out = 0;
+        Err(refusal) => {
+            *out = otherwise;
             refusal.number()
         }
     }
 }
 
-// A sequence number goes out.
-pub fn sequence_out(answer: Sequence, out: &mut u32) -> u32
-    ensures { SequenceOut answer result out.new }
+// A digest of the primitives goes out, zeros with a refusal.
+pub fn digest_out(answer: Result<[u8; 16], LengthError>, out: &mut [u8; 16]) -> u32
+    ensures { ValueOut (outcome answer) (replicate 16 0) result out.new }
 {
-    match answer {
-        Sequence::Number(n) => {
-            *out = n;
-            0
-        }
-        Sequence::Refused(refusal) => {
-            *out = 0;
-            refusal.number()
-        }
-    }
+    value_out(answer.map_err(Refusal::from), [0; 16], out)
 }
 
-// Yes is 1, and no is 0.
-fn flag(yes: bool) -> u32
-    ensures { result ≡ flag_number yes }
-{
-    if yes {
-        return 1;
-    }
-    0
-}
-
-// What a Wrap token holds goes out.
+// What a Wrap token holds goes out, zeros with a refusal.
 pub fn unwrapped_out(
-    answer: Unwrapped,
+    answer: Result<Unwrapped, Refusal>,
     sequence: &mut u32,
     sealed: &mut u32,
     len: &mut usize,
 ) -> u32
     ensures { UnwrappedOut answer result sequence.new sealed.new len.new }
 {
-    match answer {
-        Unwrapped::Message {
-            sequence: n,
-            sealed: yes,
-            length: octets,
-        } => {
-            *sequence = n;
-            *sealed = flag(yes);
-            *len = octets;
-            0
-        }
-        Unwrapped::Refused(refusal) => {
-            *sequence = 0;
-            *sealed = 0;
-            *len = 0;
-            refusal.number()
-        }
-    }
+    let unwrapped = match answer {
+        Ok(unwrapped) => unwrapped,
+        Err(_) => Unwrapped {
+            sequence: 0,
+            sealed: false,
+            length: 0,
+        },
+    };
+    *sequence = unwrapped.sequence;
+    *sealed = u32::from(unwrapped.sealed);
+    *len = unwrapped.length;
+    status_number(&answer)
 }
 
 // A window goes out as four numbers.
@@ -103,21 +71,19 @@ pub fn window_out(window: Window, out: &mut [u64; 4])
     ensures { out.new ≡ window_words window }
 {
     *out = [
-        window.first as u64,
-        window.next as u64,
+        u64::from(window.first),
+        u64::from(window.next),
         window.seen,
         window.billed,
     ];
 }
 
-// What came of a number goes out: its status, and the window if the number was billed.
+// What came of a number goes out: its status, 0 where there is none, and the window if the number was billed.
 pub fn received_out(received: Received, window: &mut [u64; 4], status: &mut u32)
     ensures { ReceivedOut received window.old window.new status.new }
 {
-    let given = received.status;
-    *status = given.number();
-    if given.is_billed() {
-        let after = received.window;
-        window_out(after, window);
+    *status = received.status.map_or(0, Status::number);
+    if received.status.is_some_and(Status::is_billed) {
+        window_out(received.window, window);
     }
 }

@@ -9,10 +9,7 @@ use tokens::strength::Strength;
 pub fn is_yes(n: u32) -> bool
     ensures { result ≡ is_yes n }
 {
-    if n == 0 {
-        return false;
-    }
-    true
+    n != 0
 }
 
 // Full strength unless export is asked for.
@@ -20,9 +17,10 @@ pub fn strength_of(export: u32) -> Strength
     ensures { result ≡ strength_of export }
 {
     if is_yes(export) {
-        return Strength::Export;
+        Strength::Export
+    } else {
+        Strength::Full
     }
-    Strength::Full
 }
 
 // The initiator unless the acceptor is named.
@@ -30,31 +28,33 @@ fn sender_of(acceptor: u32) -> Sender
     ensures { result ≡ sender_of acceptor }
 {
     if is_yes(acceptor) {
-        return Sender::Acceptor;
+        Sender::Acceptor
+    } else {
+        Sender::Initiator
     }
-    Sender::Initiator
 }
 
 // The key, the strength and the sender of a token.
 pub fn context_of(key: &[u8; 16], export: u32, acceptor: u32) -> Context
     ensures { result ≡ context_of key.now export acceptor }
 {
-    let octets = *key;
+    let key = *key;
     Context {
-        key: octets,
+        key,
         strength: strength_of(export),
         sender: sender_of(acceptor),
     }
 }
 
 // The window that four numbers hold. Any four will do: the first number and the next expected distance are taken modulo 2^32.
-pub fn window_of(words: [u64; 4]) -> Window
-    ensures { result ≡ window_of words }
+pub fn window_of(words: &[u64; 4]) -> Window
+    ensures { result ≡ window_of words.now }
 {
+    let [first, next, seen, billed] = *words;
     Window {
-        first: (words[0] % 4294967296) as u32,
-        next: (words[1] % 4294967296) as u32,
-        seen: words[2],
-        billed: words[3],
+        first: (first & 0xffff_ffff) as u32,
+        next: (next & 0xffff_ffff) as u32,
+        seen,
+        billed,
     }
 }

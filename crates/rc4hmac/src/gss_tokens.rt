@@ -1,11 +1,11 @@
 // MIC and Wrap tokens for C.
 ghost use Rattle.std.specs.Prelude.{◌≡◌, ◌+◌, length};
-ghost use Rattle.tokens.specs.Answer.{extent_answer, sequence_answer};
+ghost use Rattle.tokens.specs.Answer.{map_ok};
 ghost use Rattle.tokens.specs.Limits.{buffer_after};
 ghost use Rattle.tokens.specs.Message.{all_octets};
 ghost use Rattle.tokens.specs.Mic.{mic_writing, mic_reading, ReadsExactly};
 ghost use Rattle.tokens.specs.Wrap.{plain, wrap_writing, wrap_opening, unwrapped_answer, OpensExactly};
-ghost use Rattle.rc4hmac.specs.Answers.{ExtentOut, SequenceOut, UnwrappedOut};
+ghost use Rattle.rc4hmac.specs.Answers.{ValueOut, UnwrappedOut};
 ghost use Rattle.rc4hmac.specs.Arguments.{is_yes, context_of};
 
 use crate::{answers, arguments};
@@ -22,11 +22,12 @@ pub extern "C" fn rc4hmac_mic_write(
     start: usize,
     wrote: &mut usize,
 ) -> u32
-    ensures answer { ExtentOut (extent_answer length (mic_writing (context_of key.now export acceptor) sequence «data».now buf.old start)) result wrote.new }
+    ensures answer { ValueOut (map_ok length (mic_writing (context_of key.now export acceptor) sequence «data».now buf.old start)) 0 result wrote.new }
     ensures buffer { buf.new ≡ buffer_after all_octets start buf.old (mic_writing (context_of key.now export acceptor) sequence «data».now buf.old start) }
 {
     let context = arguments::context_of(key, export, acceptor);
-    answers::extent_out(mic::mic_write(context, sequence, data, buf, start), wrote)
+    let written = mic::mic_write(context, sequence, data, buf, start);
+    answers::value_out(written, 0, wrote)
 }
 
 #[unsafe(no_mangle)]
@@ -40,11 +41,12 @@ pub extern "C" fn rc4hmac_mic_read(
     len: usize,
     sequence: &mut u32,
 ) -> u32
-    ensures answer { SequenceOut (sequence_answer (mic_reading (context_of key.now export acceptor) «data».now buf.now start len)) result sequence.new }
+    ensures answer { ValueOut (mic_reading (context_of key.now export acceptor) «data».now buf.now start len) 0 result sequence.new }
     ensures exact { ReadsExactly (context_of key.now export acceptor) «data».now buf.now start len result sequence.new }
 {
     let context = arguments::context_of(key, export, acceptor);
-    answers::sequence_out(mic::mic_read(context, data, buf, start, len), sequence)
+    let read = mic::mic_read(context, data, buf, start, len);
+    answers::value_out(read, 0, sequence)
 }
 
 #[unsafe(no_mangle)]
@@ -60,16 +62,13 @@ pub extern "C" fn rc4hmac_wrap_write(
     len: usize,
     wrote: &mut usize,
 ) -> u32
-    ensures answer { ExtentOut (extent_answer length (wrap_writing (context_of key.now export acceptor) sequence confounder.now (is_yes sealed) buf.old start len)) result wrote.new }
+    ensures answer { ValueOut (map_ok length (wrap_writing (context_of key.now export acceptor) sequence confounder.now (is_yes sealed) buf.old start len)) 0 result wrote.new }
     ensures buffer { buf.new ≡ buffer_after all_octets start buf.old (wrap_writing (context_of key.now export acceptor) sequence confounder.now (is_yes sealed) buf.old start len) }
 {
     let context = arguments::context_of(key, export, acceptor);
-    let eight = *confounder;
     let seal = arguments::is_yes(sealed);
-    answers::extent_out(
-        wrap::wrap_write(context, sequence, eight, seal, buf, start, len),
-        wrote,
-    )
+    let written = wrap::wrap_write(context, sequence, *confounder, seal, buf, start, len);
+    answers::value_out(written, 0, wrote)
 }
 
 #[unsafe(no_mangle)]
@@ -89,10 +88,6 @@ pub extern "C" fn rc4hmac_wrap_open(
     ensures exact { OpensExactly (context_of key.now export acceptor) buf.old start len result sequence.new (is_yes sealed.new) found.new buf.new }
 {
     let context = arguments::context_of(key, export, acceptor);
-    answers::unwrapped_out(
-        wrap::wrap_open(context, buf, start, len),
-        sequence,
-        sealed,
-        found,
-    )
+    let opened = wrap::wrap_open(context, buf, start, len);
+    answers::unwrapped_out(opened, sequence, sealed, found)
 }

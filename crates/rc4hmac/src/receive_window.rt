@@ -1,21 +1,19 @@
 // The receive window for C: numbers handed in, and tokens received, with their frame or without.
-ghost use Rattle.std.specs.Prelude.{◌≡◌, ◌+◌};
+ghost use Rattle.std.specs.Prelude.{◌≡◌, ◌+◌, Ok};
 ghost use Rattle.billing.specs.Receive.{presented_by, received};
 ghost use Rattle.billing.specs.Window.{new_window, missing as missing_in};
 ghost use Rattle.frame.specs.Mic as FramedMic;
 ghost use Rattle.frame.specs.Wrap as FramedWrap;
-ghost use Rattle.tokens.specs.Answer.{sequence_answer};
 ghost use Rattle.tokens.specs.Limits.{buffer_after};
 ghost use Rattle.tokens.specs.Mic.{mic_reading, ReadsExactly};
 ghost use Rattle.tokens.specs.Wrap.{plain, wrap_opening, unwrapped_answer, OpensExactly};
-ghost use Rattle.tokens.specs.declared.answer.Sequence.TheVariants as sequence_is;
-ghost use Rattle.rc4hmac.specs.Answers.{window_words, SequenceOut, UnwrappedOut, ReceivedOut};
+ghost use Rattle.rc4hmac.specs.Answers.{window_words, ValueOut, UnwrappedOut, ReceivedOut};
 ghost use Rattle.rc4hmac.specs.Arguments.{is_yes, context_of, window_of};
 
 use crate::{answers, arguments};
 use billing::receive;
+use billing::receive::ReceivedToken;
 use billing::window::Window;
-use tokens::answer::Sequence;
 
 #[unsafe(no_mangle)]
 pub extern "C" fn rc4hmac_window_new(first: u32, window: &mut [u64; 4]) -> u32
@@ -29,12 +27,10 @@ pub extern "C" fn rc4hmac_window_new(first: u32, window: &mut [u64; 4]) -> u32
 #[unsafe(no_mangle)]
 pub extern "C" fn rc4hmac_window_bill(window: &mut [u64; 4], sequence: u32, status: &mut u32) -> u32
     ensures answer { result ≡ 0 }
-    ensures billing { ReceivedOut (received (window_of window.old) (sequence_is.Number sequence)) window.old window.new status.new }
+    ensures billing { ReceivedOut (received (window_of window.old) (Ok sequence)) window.old window.new status.new }
 {
-    let words = *window;
-    let came = arguments::window_of(words);
-    let billed = receive::receive(came, Sequence::Number(sequence));
-    answers::received_out(billed, window, status);
+    let came = arguments::window_of(window);
+    answers::received_out(receive::receive(came, Ok(sequence)), window, status);
     0
 }
 
@@ -43,8 +39,7 @@ pub extern "C" fn rc4hmac_window_missing(window: &[u64; 4], missing: &mut u32) -
     ensures answer { result ≡ 0 }
     ensures missing { missing.new ≡ missing_in (window_of window.now) }
 {
-    let words = *window;
-    *missing = arguments::window_of(words).missing();
+    *missing = arguments::window_of(window).missing();
     0
 }
 
@@ -68,12 +63,9 @@ pub extern "C" fn rc4hmac_receive_wrap(
     ensures billing { ReceivedOut (received (window_of window.old) (presented_by (unwrapped_answer (wrap_opening (context_of key.now export acceptor) buf.old start len)))) window.old window.new status.new }
 {
     let context = arguments::context_of(key, export, acceptor);
-    let words = *window;
-    let came = arguments::window_of(words);
-    let answer = receive::receive_wrap(came, context, buf, start, len);
-    let billed = answer.received;
-    answers::received_out(billed, window, status);
-    let token = answer.token;
+    let came = arguments::window_of(window);
+    let ReceivedToken { token, received } = receive::receive_wrap(came, context, buf, start, len);
+    answers::received_out(received, window, status);
     answers::unwrapped_out(token, sequence, sealed, found)
 }
 
@@ -90,18 +82,17 @@ pub extern "C" fn rc4hmac_receive_mic(
     sequence: &mut u32,
     status: &mut u32,
 ) -> u32
-    ensures answer { SequenceOut (sequence_answer (mic_reading (context_of key.now export acceptor) «data».now buf.now start len)) result sequence.new }
+    ensures answer { ValueOut (mic_reading (context_of key.now export acceptor) «data».now buf.now start len) 0 result sequence.new }
     ensures exact { ReadsExactly (context_of key.now export acceptor) «data».now buf.now start len result sequence.new }
-    ensures billing { ReceivedOut (received (window_of window.old) (sequence_answer (mic_reading (context_of key.now export acceptor) «data».now buf.now start len))) window.old window.new status.new }
+    ensures billing { ReceivedOut (received (window_of window.old) (mic_reading (context_of key.now export acceptor) «data».now buf.now start len)) window.old window.new status.new }
 {
     let context = arguments::context_of(key, export, acceptor);
-    let words = *window;
-    let came = arguments::window_of(words);
-    let answer = receive::receive_mic(came, context, data, buf, start, len);
-    let billed = answer.received;
-    answers::received_out(billed, window, status);
-    let token = answer.token;
-    answers::sequence_out(token, sequence)
+    let came = arguments::window_of(window);
+    let ReceivedToken { token, received } = receive::receive_mic(
+        came, context, data, buf, start, len,
+    );
+    answers::received_out(received, window, status);
+    answers::value_out(token, 0, sequence)
 }
 
 #[unsafe(no_mangle)]
@@ -124,12 +115,11 @@ pub extern "C" fn rc4hmac_receive_framed_wrap(
     ensures billing { ReceivedOut (received (window_of window.old) (presented_by (unwrapped_answer (FramedWrap.framed_wrap_opening (context_of key.now export acceptor) buf.old start len)))) window.old window.new status.new }
 {
     let context = arguments::context_of(key, export, acceptor);
-    let words = *window;
-    let came = arguments::window_of(words);
-    let answer = receive::receive_framed_wrap(came, context, buf, start, len);
-    let billed = answer.received;
-    answers::received_out(billed, window, status);
-    let token = answer.token;
+    let came = arguments::window_of(window);
+    let ReceivedToken { token, received } = receive::receive_framed_wrap(
+        came, context, buf, start, len,
+    );
+    answers::received_out(received, window, status);
     answers::unwrapped_out(token, sequence, sealed, found)
 }
 
@@ -146,16 +136,15 @@ pub extern "C" fn rc4hmac_receive_framed_mic(
     sequence: &mut u32,
     status: &mut u32,
 ) -> u32
-    ensures answer { SequenceOut (sequence_answer (FramedMic.framed_mic_reading (context_of key.now export acceptor) «data».now buf.now start len)) result sequence.new }
+    ensures answer { ValueOut (FramedMic.framed_mic_reading (context_of key.now export acceptor) «data».now buf.now start len) 0 result sequence.new }
     ensures exact { FramedMic.ReadsExactly (context_of key.now export acceptor) «data».now buf.now start len result sequence.new }
-    ensures billing { ReceivedOut (received (window_of window.old) (sequence_answer (FramedMic.framed_mic_reading (context_of key.now export acceptor) «data».now buf.now start len))) window.old window.new status.new }
+    ensures billing { ReceivedOut (received (window_of window.old) (FramedMic.framed_mic_reading (context_of key.now export acceptor) «data».now buf.now start len)) window.old window.new status.new }
 {
     let context = arguments::context_of(key, export, acceptor);
-    let words = *window;
-    let came = arguments::window_of(words);
-    let answer = receive::receive_framed_mic(came, context, data, buf, start, len);
-    let billed = answer.received;
-    answers::received_out(billed, window, status);
-    let token = answer.token;
-    answers::sequence_out(token, sequence)
+    let came = arguments::window_of(window);
+    let ReceivedToken { token, received } = receive::receive_framed_mic(
+        came, context, data, buf, start, len,
+    );
+    answers::received_out(received, window, status);
+    answers::value_out(token, 0, sequence)
 }

@@ -1,7 +1,9 @@
 // Why a call is refused, and what an opened Wrap token holds. `specs/Answer.antt` has the number of each refusal.
 ghost use Rattle.std.specs.Prelude.{◌≡◌};
 ghost use Rattle.tokens.specs.Answer as Spec;
+ghost use Rattle.tokens.specs.declared.answer.Refusal.TheVariants.{Length};
 
+use primitives::limits::LengthError;
 use std::error::Error;
 use std::fmt;
 
@@ -44,6 +46,15 @@ impl fmt::Display for Refusal {
 }
 
 impl Error for Refusal {}
+
+// A length outside the limits of the primitives is the refusal of a length.
+impl From<LengthError> for Refusal {
+    ghost from_gives = { λ _ refusal. refusal ≡ Length };
+
+    fn from(_: LengthError) -> Self {
+        Refusal::Length
+    }
+}
 
 // What a Wrap token holds beside its octets: its sequence number, whether it is sealed, and how long its message is.
 #[derive(Clone, Copy, Debug, PartialEq, Eq)]

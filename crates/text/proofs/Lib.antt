@@ -5,3 +5,4 @@ mod Digits
 mod Numerals
 mod Characters
 mod Texts
+mod Tables

@@ -1,0 +1,21 @@
+-- Each way out by the law in `proofs/Tables.antt`.
+use Rattle.std.proofs.Common.{sym, ap, ◌∙◌, length, drop, drop_of_length-le}
+use Rattle.tokens.specs.Octets.{same}
+use Rattle.text.specs.Words.{chosen}
+use Rattle.text.proofs.Tables.{entries, here, not_here}
+use Rattle.text.proofs.words.choice.Goals as goal
+
+pub returns-then-same : goal.returns-then-same
+returns-then-same g c =
+    let compared = ap (same c.args.word.now) (sym c.as_bytes.ensures.value) ∙ sym c.same.ensures ∙ c.if-same.true in
+    sym (here c.args.word.now c.args.choices.now c.loop-name.name-index c.loop-name-item.result c.loop-name-test.true c.loop-name-item.is compared) ∙ c.loop-name.invariant
+
+pub loop-name-preserved : goal.loop-name-preserved
+loop-name-preserved g c =
+    let compared = ap (same c.args.word.now) (sym c.as_bytes.ensures.value) ∙ sym c.same.ensures ∙ c.if-same.false in
+    sym (not_here c.args.word.now c.args.choices.now c.loop-name.name-index c.loop-name-item.result c.loop-name-test.true c.loop-name-item.is compared) ∙ c.loop-name.invariant
+
+pub returns : goal.returns
+unfolding chosen
+returns g c =
+    ap (λ table. chosen c.args.word.now (entries table)) (sym (drop_of_length-le c.args.choices.now {i = c.loop-name.name-index} c.loop-name-test.false)) ∙ c.loop-name.invariant

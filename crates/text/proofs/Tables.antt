@@ -1,5 +1,5 @@
 -- A table of words searched from one of its entries on.
-use Rattle.std.proofs.Common.{◌≡◌, ℕ, ◌+◌, ◌<◌, Bool, true, false, cond, List, length, map, drop, drop-cons, add-one, slice_index_or, Bor, Option, Some, sym}
+use Rattle.std.proofs.Common.{◌≡◌, ℕ, ◌+◌, ◌<◌, true, false, List, length, map, drop, drop-cons, add-one, slice_index_or, Bor, Some}
 use Rattle.tokens.specs.Octets.{same}
 use Rattle.text.specs.Words.{chosen}
 

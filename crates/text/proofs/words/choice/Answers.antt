@@ -1,5 +1,5 @@
 -- Each way out by the law in `proofs/Tables.antt`.
-use Rattle.std.proofs.Common.{sym, ap, ◌∙◌, length, drop, drop_of_length-le}
+use Rattle.std.proofs.Common.{sym, ap, ◌∙◌, drop_of_length-le}
 use Rattle.tokens.specs.Octets.{same}
 use Rattle.text.specs.Words.{chosen}
 use Rattle.text.proofs.Tables.{entries, here, not_here}

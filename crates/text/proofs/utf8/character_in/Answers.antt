@@ -1,35 +1,40 @@
 -- Each way out by the law in `proofs/Characters.antt`.
-use mathlib.Core.Path.{refl, sym, ap, ◌∙◌}
-use native.Mathlib.Omega.{arith}
-use lib.ListN.{take}
+use Rattle.std.proofs.Common.{◌≡◌, ℕ, ◌-◌, ◌≤◌, ◌&&◌, List, length, get_or, cond, None, refl, sym, ap, ◌∙◌, arith, take, drop}
 use Rattle.tokens.specs.Octets.{same}
+use Rattle.text.specs.Utf8.{character_in, is_character, leading_bits, utf8, value_after, width}
 use Rattle.text.proofs.Characters as Law
 use Rattle.text.proofs.utf8.character_in.Goals as goal
 
+-- what is said of the octets that the first announces
+said : (octets : List ℕ) {w bits v : ℕ} → 1 ≤ length octets → 1 ≤ w → w ≤ length octets → w ≡ width (get_or octets 0 0) → bits ≡ leading_bits (get_or octets 0 0)
+    → v ≡ value_after bits (take (w - 1) (drop 1 octets)) → character_in octets ≡ cond (is_character v && same (take w octets) (utf8 v)) (Law.numbered w v) None
+said octets {w} {bits} {v} h some there ew eb ev =
+    Law.found octets w v ew (ev ∙ ap (λ bits. value_after bits (take (w - 1) (drop 1 octets))) eb ∙ Law.value_of_front octets w h some) there
+
 pub returns-then-octets-width : goal.returns-then-octets-width
-returns-then-octets-width c = let w = c.width-width.ensures.0 in sym (Law.cut_short _ (omega arith))
+returns-then-octets-width c = let w = c.first_octet-width.ensures.width in sym (Law.cut_short _ (omega arith))
 
 pub returns-then-not-is_character : goal.returns-then-not-is_character
 returns-then-not-is_character c =
-    let found = Law.found c.args.octets.now _ _ c.width-width.ensures.0 c.value-value.ensures (omega arith) in
-    let none = sym c.is_character.ensures ∙ c.if-not-is_character.true in
-    sym (found ∙ rw none refl)
+    let first = c.first_octet-width.ensures in
+    let all = said c.args.octets.now c.requires first.some.0 (omega arith) first.width first.bits c.value-value.ensures in
+    sym (all ∙ rw (sym c.is_character.ensures ∙ c.if-not-is_character.true) refl)
 
-pub encoded-form-requires : goal.encoded-form-requires
-encoded-form-requires c = Law.character_most _ (sym c.is_character.ensures ∙ c.if-not-is_character.false)
+pub encoded-requires : goal.encoded-requires
+encoded-requires c = Law.character_most _ (sym c.is_character.ensures ∙ c.if-not-is_character.false)
 
-pub returns-then-same : goal.returns-then-same
-returns-then-same c =
-    let front = take c.width-width.result c.args.octets.now in
-    let found = Law.found c.args.octets.now _ _ c.width-width.ensures.0 c.value-value.ensures (omega arith) in
+pub returns-then-not-same : goal.returns-then-not-same
+returns-then-not-same c =
+    let first = c.first_octet-width.ensures in
+    let all = said c.args.octets.now c.requires first.some.0 (omega arith) first.width first.bits c.value-value.ensures in
     let one = sym c.is_character.ensures ∙ c.if-not-is_character.false in
-    let compared = sym (c.same.ensures ∙ ap (same front) c.encoded-form.ensures.2) ∙ c.if-same.true in
-    sym (found ∙ rw (one, compared) refl)
+    let compared = sym (c.same.ensures ∙ ap (same (take c.first_octet-width.result.0 c.args.octets.now)) c.encoded.ensures) ∙ c.if-not-same.true in
+    sym (all ∙ rw (one, compared) refl)
 
 pub returns : goal.returns
 returns c =
-    let front = take c.width-width.result c.args.octets.now in
-    let found = Law.found c.args.octets.now _ _ c.width-width.ensures.0 c.value-value.ensures (omega arith) in
+    let first = c.first_octet-width.ensures in
+    let all = said c.args.octets.now c.requires first.some.0 (omega arith) first.width first.bits c.value-value.ensures in
     let one = sym c.is_character.ensures ∙ c.if-not-is_character.false in
-    let compared = sym (c.same.ensures ∙ ap (same front) c.encoded-form.ensures.2) ∙ c.if-same.false in
-    sym (found ∙ rw (one, compared) refl)
+    let compared = sym (c.same.ensures ∙ ap (same (take c.first_octet-width.result.0 c.args.octets.now)) c.encoded.ensures) ∙ c.if-not-same.false in
+    sym (all ∙ rw (one, compared) refl)

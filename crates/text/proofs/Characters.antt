@@ -21,18 +21,6 @@ numbered w v = Some (record { width = w; value = v })
 
 -- ---- Which numbers are characters
 
-pub low_character : (n : ℕ) → n < 55296 → is_character n ≡ true
-unfolding is_character
-low_character n h = rw (lt-ltb n 55296) refl
-
-pub surrogate : (n : ℕ) → 55296 ≤ n → n < 57344 → is_character n ≡ false
-unfolding is_character
-surrogate n h k = rw (le-ltb n 55296, lt-leb 57344 n) refl
-
-pub high_character : (n : ℕ) → 57344 ≤ n → is_character n ≡ ltb n 1114112
-unfolding is_character
-high_character n h = rw (le-ltb n 55296 (omega arith), le-leb 57344 n) refl
-
 pub character_most : (n : ℕ) → is_character n ≡ true → n < 1114112
 unfolding is_character
 character_most n e = decided (ltb n 55296) (leb 57344 n) refl e

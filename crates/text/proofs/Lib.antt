@@ -5,5 +5,6 @@ mod DigitValues
 mod Digits
 mod Numerals
 mod Characters
+mod Equal
 mod Texts
 mod Tables

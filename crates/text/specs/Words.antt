@@ -24,17 +24,17 @@ chosen word (entry ∷ table) = cond (same word entry.0) (Some entry.1) (chosen 
 unfoldable pub verb_of : List ℕ → Option Verb
 verb_of word =
     chosen word (
-      (ascii "key", verbs.Key)
-      ∷ (ascii "checksum", verbs.Checksum)
-      ∷ (ascii "bill", verbs.Bill)
-      ∷ (ascii "help", verbs.Help)
-      ∷ (ascii "open", verbs.Open)
-      ∷ (ascii "wrap", verbs.Wrap)
-      ∷ (ascii "verify", verbs.Verify)
-      ∷ (ascii "mic", verbs.Mic)
-      ∷ (ascii "decrypt", verbs.Decrypt)
-      ∷ (ascii "encrypt", verbs.Encrypt)
-      ∷ []
+    (ascii "key", verbs.Key)
+    ∷ (ascii "checksum", verbs.Checksum)
+    ∷ (ascii "bill", verbs.Bill)
+    ∷ (ascii "help", verbs.Help)
+    ∷ (ascii "open", verbs.Open)
+    ∷ (ascii "wrap", verbs.Wrap)
+    ∷ (ascii "verify", verbs.Verify)
+    ∷ (ascii "mic", verbs.Mic)
+    ∷ (ascii "decrypt", verbs.Decrypt)
+    ∷ (ascii "encrypt", verbs.Encrypt)
+    ∷ []
     )
 
 unfoldable pub strength_of : List ℕ → Option Strength

@@ -5,7 +5,7 @@ ghost use Rattle.text.specs.Utf8 as Spec;
 use std::marker::Model;
 
 // At most 1,024 units. A contract sees the list of them.
-#[derive(Drop)]
+#[derive(Debug, Drop)]
 pub struct Units {
     units: [u16; 1024],
     count: usize,
@@ -23,7 +23,7 @@ impl Model for Units {
 impl Units {
     pub const MOST: usize = 1024;
 
-    pub fn new() -> Units
+    pub(crate) fn new() -> Units
         ensures { result ≡ [] }
     {
         Units {
@@ -49,7 +49,7 @@ impl Units {
 
     // Puts the units of a character after those that are there: one, or two if it is above FFFF.
     #[tactic(auto, unfolding(crate::specs::Utf8::utf16))]
-    pub fn push(&mut self, character: u32)
+    pub(crate) fn push(&mut self, character: u32)
         requires { (character < 0x110000) × (length self.old + length (Spec.utf16 character) ≤ 1024) }
         ensures { self.new ≡ self.old ++ Spec.utf16 character }
     {

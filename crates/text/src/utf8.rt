@@ -4,7 +4,6 @@ ghost use Rattle.text.specs.Utf8 as Spec;
 
 use crate::units::Units;
 use std::fmt;
-use tokens::checks;
 
 // Why a text has no units.
 #[derive(Clone, Copy, Debug, PartialEq, Eq)]
@@ -102,10 +101,11 @@ fn character_in(octets: &[u8]) -> Option<Character>
         return None;
     }
     let mut buf = [0; 4];
-    if !checks::same(&octets[..width], encoded(value, &mut buf)) {
-        return None;
+    if &octets[..width] == encoded(value, &mut buf) {
+        Some(Character { width, value })
+    } else {
+        None
     }
-    Some(Character { width, value })
 }
 
 // The units of a text of at most 1,024 octets. It is read exactly when it is the octets of some characters.

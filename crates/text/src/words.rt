@@ -2,7 +2,6 @@
 ghost use Rattle.std.specs.Prelude.{◌≡◌, map};
 ghost use Rattle.text.specs.Words as Spec;
 
-use tokens::checks;
 use tokens::context::Sender;
 use tokens::strength::Strength;
 
@@ -26,7 +25,7 @@ fn choice<T: Copy>(word: &[u8], choices: &[(&str, T)]) -> Option<T>
     ensures { result ≡ Spec.chosen word.now (map (λ c. (c.0.now, c.1)) choices.now) }
 {
     for (name, choice) in choices {
-        if checks::same(word, name.as_bytes()) {
+        if word == name.as_bytes() {
             return Some(*choice);
         }
     }
@@ -67,7 +66,10 @@ pub fn sender_of(word: &[u8]) -> Option<Sender>
 {
     choice(
         word,
-        &[("initiator", Sender::Initiator), ("acceptor", Sender::Acceptor)],
+        &[
+            ("initiator", Sender::Initiator),
+            ("acceptor", Sender::Acceptor),
+        ],
     )
 }
 
@@ -81,11 +83,11 @@ pub fn sealing_of(word: &[u8]) -> Option<bool>
 pub fn is_framed(word: &[u8]) -> bool
     ensures { result ≡ Spec.is_framed word.now }
 {
-    checks::same(word, b"framed")
+    word == b"framed".as_slice()
 }
 
 pub fn is_sealed_only(word: &[u8]) -> bool
     ensures { result ≡ Spec.is_sealed_only word.now }
 {
-    checks::same(word, b"sealed-only")
+    word == b"sealed-only".as_slice()
 }

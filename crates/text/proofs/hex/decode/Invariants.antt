@@ -7,5 +7,5 @@ abbrev pub invariant-loop-i : goal.invariant-loop-i
 invariant-loop-i g l = record {
   size : length l.octet-items ≡ g.row.N;
   digits : are_digits l.text ≡ are_digits (drop (2 * l.i) l.text);
-  said : take l.i l.octet-items ++ octets_of (drop (2 * l.i) l.text) ≡ octets_of l.text
+  said : take l.i l.octet-items ++ octets_of (drop (2 * l.i) l.text) ≡ octets_of l.text;
 }

@@ -6,5 +6,5 @@ use Rattle.text.proofs.hex.encode.Given as goal
 abbrev pub invariant-loop-i : goal.invariant-loop-i
 invariant-loop-i l = record {
   size : length l.out ≡ length l.initial.out;
-  written : l.out ≡ digits (take l.i l.octets) ++ drop (2 * l.i) l.initial.out
+  written : l.out ≡ digits (take l.i l.octets) ++ drop (2 * l.i) l.initial.out;
 }

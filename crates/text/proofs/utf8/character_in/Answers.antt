@@ -1,6 +1,8 @@
 -- Each way out by the law in `proofs/Characters.antt`.
-use Rattle.std.proofs.Common.{◌≡◌, ℕ, ◌-◌, ◌≤◌, ◌&&◌, List, length, get_or, cond, None, refl, sym, ap, ◌∙◌, arith, take, drop}
+use Rattle.std.proofs.Common.{◌≡◌, eqb, ℕ, ◌-◌, ◌≤◌, ◌&&◌, List, length, get_or, cond, None, refl, sym, ap, ◌∙◌, arith, take, drop}
+use Rattle.std.specs.Cmp.Lexicographic.{pointwise}
 use Rattle.tokens.specs.Octets.{same}
+use Rattle.text.proofs.Equal.{compared}
 use Rattle.text.specs.Utf8.{character_in, is_character, leading_bits, utf8, value_after, width}
 use Rattle.text.proofs.Characters as Law
 use Rattle.text.proofs.utf8.character_in.Goals as goal
@@ -23,18 +25,20 @@ returns-then-not-is_character c =
 pub encoded-requires : goal.encoded-requires
 encoded-requires c = Law.character_most _ (sym c.is_character.ensures ∙ c.if-not-is_character.false)
 
-pub returns-then-not-same : goal.returns-then-not-same
-returns-then-not-same c =
+pub returns-else-eq : goal.returns-else-eq
+returns-else-eq c =
     let first = c.first_octet-width.ensures in
     let all = said c.args.octets.now c.requires first.some.0 (omega arith) first.width first.bits c.value-value.ensures in
     let one = sym c.is_character.ensures ∙ c.if-not-is_character.false in
-    let compared = sym (c.same.ensures ∙ ap (same (take c.first_octet-width.result.0 c.args.octets.now)) c.encoded.ensures) ∙ c.if-not-same.true in
-    sym (all ∙ rw (one, compared) refl)
+    let front = take c.first_octet-width.result.0 c.args.octets.now in
+    let found = sym (c.eq.ensures ∙ ap (pointwise eqb front) c.encoded.ensures ∙ compared front _) ∙ c.if-eq.false in
+    sym (all ∙ rw (one, found) refl)
 
-pub returns : goal.returns
-returns c =
+pub returns-then-eq : goal.returns-then-eq
+returns-then-eq c =
     let first = c.first_octet-width.ensures in
     let all = said c.args.octets.now c.requires first.some.0 (omega arith) first.width first.bits c.value-value.ensures in
     let one = sym c.is_character.ensures ∙ c.if-not-is_character.false in
-    let compared = sym (c.same.ensures ∙ ap (same (take c.first_octet-width.result.0 c.args.octets.now)) c.encoded.ensures) ∙ c.if-not-same.false in
-    sym (all ∙ rw (one, compared) refl)
+    let front = take c.first_octet-width.result.0 c.args.octets.now in
+    let found = sym (c.eq.ensures ∙ ap (pointwise eqb front) c.encoded.ensures ∙ compared front _) ∙ c.if-eq.true in
+    sym (all ∙ rw (one, found) refl)

@@ -9,5 +9,5 @@ invariant-loop-octet l = record {
   one : l.octet-index ≤ 1 → l.value < 8192;
   two : l.octet-index ≤ 2 → l.value < 524288;
   all : l.octet-index ≤ 3 → l.value < 33554432;
-  ahead : value_after l.fn.bits l.after ≡ value_after l.value (drop l.octet-index l.after)
+  ahead : value_after l.fn.bits l.after ≡ value_after l.value (drop l.octet-index l.after);
 }

@@ -1,7 +1,7 @@
 // The words of the command line, one after the other. A word that is wrong is never repeated in what is told of it, since it may be a key.
 ghost use Rattle.std.specs.Prelude.{◌≤◌, length};
 
-use crate::failure::Failure;
+use crate::failure::WrongUse;
 use crate::{help, input};
 use std::env::FillError;
 use std::fs::File;
@@ -54,11 +54,11 @@ impl Arguments {
         &mut self,
         meaning_of: F,
         wrong: &'static str,
-    ) -> Result<T, Failure>
+    ) -> Result<T, WrongUse>
         requires { F.IsAlwaysCallable meaning_of }
     {
         let mut buf = [0; WORD];
-        meaning_of(self.read(&mut buf)).ok_or(Failure::WrongUse(wrong))
+        meaning_of(self.read(&mut buf)).ok_or(WrongUse::Input(wrong))
     }
 
     fn is_there(&self, at: usize) -> bool {
@@ -67,12 +67,9 @@ impl Arguments {
 
     // How many words are left.
     fn left(&self) -> usize {
-        for n in 0..usize::MAX {
-            if !self.is_there(self.next.saturating_add(n)) {
-                return n;
-            }
-        }
-        usize::MAX
+        (0..usize::MAX)
+            .find(|n| !self.is_there(self.next.saturating_add(*n)))
+            .unwrap_or(usize::MAX)
     }
 
     // Whether the next word asks for the status. If so, it is read.
@@ -87,7 +84,7 @@ impl Arguments {
     }
 
     // The verb, if as many words stand after it as it takes.
-    pub fn verb(&mut self) -> Result<Verb, Failure> {
+    pub fn verb(&mut self) -> Result<Verb, WrongUse> {
         let verb = self.meaning(
             words::verb_of,
             "the verb is missing or unknown: expected key, open, wrap, verify, mic, decrypt, encrypt, checksum, bill or help",
@@ -95,18 +92,18 @@ impl Arguments {
         if help::counts(verb).contains(&self.left()) {
             Ok(verb)
         } else {
-            Err(Failure::WordCount(verb))
+            Err(WrongUse::WordCount(verb))
         }
     }
 
-    pub fn strength(&mut self) -> Result<Strength, Failure> {
+    pub fn strength(&mut self) -> Result<Strength, WrongUse> {
         self.meaning(
             words::strength_of,
             "the strength is wrong: expected full or export",
         )
     }
 
-    fn sender(&mut self) -> Result<Sender, Failure> {
+    fn sender(&mut self) -> Result<Sender, WrongUse> {
         self.meaning(
             words::sender_of,
             "the sender is wrong: expected initiator or acceptor",
@@ -114,7 +111,7 @@ impl Arguments {
     }
 
     // Whether the message is to be sealed.
-    pub fn sealing(&mut self) -> Result<bool, Failure> {
+    pub fn sealing(&mut self) -> Result<bool, WrongUse> {
         self.meaning(
             words::sealing_of,
             "the word for sealing is wrong: expected sealed or clear",
@@ -122,7 +119,7 @@ impl Arguments {
     }
 
     // Whether the last word is there and says framed.
-    pub fn framed(&mut self) -> Result<bool, Failure> {
+    pub fn framed(&mut self) -> Result<bool, WrongUse> {
         if self.left() == 0 {
             return Ok(false);
         }
@@ -132,7 +129,7 @@ impl Arguments {
         )
     }
 
-    pub fn sequence(&mut self) -> Result<u32, Failure> {
+    pub fn sequence(&mut self) -> Result<u32, WrongUse> {
         self.meaning(
             decimal::read,
             "the sequence number is wrong: expected a whole number from 0 to 4294967295, in decimal",
@@ -140,14 +137,14 @@ impl Arguments {
     }
 
     // A usage. Which numbers are usages is left to the library.
-    pub fn usage(&mut self) -> Result<u32, Failure> {
+    pub fn usage(&mut self) -> Result<u32, WrongUse> {
         self.meaning(
             decimal::read,
             "the usage is wrong: expected a whole number from 1 to 15, in decimal",
         )
     }
 
-    pub fn confounder(&mut self) -> Result<[u8; 8], Failure> {
+    pub fn confounder(&mut self) -> Result<[u8; 8], WrongUse> {
         self.meaning(
             hex::decode::<8>,
             "the confounder is wrong: expected 16 hexadecimal digits",
@@ -168,15 +165,15 @@ impl Arguments {
     }
 
     // The key in the file that the next word names: 32 digits, and at most one newline after them.
-    pub fn key(&mut self) -> Result<[u8; 16], Failure> {
-        let mut file = self.file().map_err(|error| Failure::Io(NO_KEY, error))?;
+    pub fn key(&mut self) -> Result<[u8; 16], WrongUse> {
+        let mut file = self.file().map_err(|error| WrongUse::Io(NO_KEY, error))?;
         let mut buf = [0; 64];
         let length = input::read(&mut file, &mut buf, WRONG_KEY, NO_KEY)?;
-        hex::decode(input::without_newline(&buf[..length])).ok_or(Failure::WrongUse(WRONG_KEY))
+        hex::decode(input::without_newline(&buf[..length])).ok_or(WrongUse::Input(WRONG_KEY))
     }
 
     // The key, the strength and the sender.
-    pub fn context(&mut self) -> Result<Context, Failure> {
+    pub fn context(&mut self) -> Result<Context, WrongUse> {
         Ok(Context {
             key: self.key()?,
             strength: self.strength()?,

@@ -6,7 +6,7 @@ ghost use Rattle.frame.specs.Wrap.{framed_wrap_opening};
 ghost use Rattle.tokens.specs.Wrap.{unwrapped_answer};
 
 use crate::arguments::Arguments;
-use crate::failure::Failure;
+use crate::failure::{Failure, WrongUse};
 use crate::output::Refused;
 use crate::{answers, input};
 use billing::receive;
@@ -23,7 +23,7 @@ const BUFFER: usize = 131264;
 // What is held of a capture: the octets from `at` to `end` of a buffer, and whether the capture ends after them.
 #[derive(Drop)]
 struct Capture {
-    buf: [u8; 131264],
+    buf: [u8; BUFFER],
     at: usize,
     end: usize,
     ended: bool,
@@ -48,10 +48,12 @@ impl Capture {
 
     // Moves the octets that are held to the front of the buffer, and reads what there is after them, as far as it fits. It does not wait
     // for more than the next octets, so that a token is billed, and a fault is told, while a pipe is still open.
-    fn refill(&mut self, rt: HostRuntime) -> Result<(), Failure> {
-        self.buf.copy_within(self.at..self.end, 0);
-        self.end -= self.at;
-        self.at = 0;
+    fn refill(&mut self, rt: HostRuntime) -> Result<(), WrongUse> {
+        if self.at != 0 {
+            self.buf.copy_within(self.at..self.end, 0);
+            self.end -= self.at;
+            self.at = 0;
+        }
         let more = rt
             .stdin()
             .read(&mut self.buf[self.end..])

@@ -12,19 +12,18 @@ pub enum Failure {
     Refused(Refusal),
     // A bill ended at a fault of a frame. It was told before the totals.
     Faulty,
-    // What is wrong and what was expected. It is told on standard error, as are the others.
-    WrongUse(&'static str),
+    // It is told on standard error.
+    WrongUse(WrongUse),
+}
+
+#[derive(Clone, Copy)]
+pub enum WrongUse {
+    // What is wrong and what was expected.
+    Input(&'static str),
     // The verb takes another number of words.
     WordCount(Verb),
     // What can't be read or written, and why.
     Io(&'static str, io::Error),
-}
-
-// Where `?` passes up an error of input and output, it is standard output that can't be written.
-impl From<io::Error> for Failure {
-    fn from(error: io::Error) -> Failure {
-        Failure::Io("standard output can't be written", error)
-    }
 }
 
 impl From<Refusal> for Failure {
@@ -33,19 +32,33 @@ impl From<Refusal> for Failure {
     }
 }
 
-// The words on standard error.
-impl fmt::Display for Failure {
+impl From<WrongUse> for Failure {
+    fn from(wrong: WrongUse) -> Failure {
+        Failure::WrongUse(wrong)
+    }
+}
+
+// Where `?` passes up an error of input and output, it is standard output that can't be written.
+impl From<io::Error> for Failure {
+    fn from(error: io::Error) -> Failure {
+        Failure::WrongUse(unwritten(error))
+    }
+}
+
+fn unwritten(error: io::Error) -> WrongUse {
+    WrongUse::Io("standard output can't be written", error)
+}
+
+impl fmt::Display for WrongUse {
     fn fmt<W: fmt::Write>(&self, f: &mut fmt::Formatter<W>) -> fmt::Result {
         match self {
-            Failure::Refused(_) => f.write_str("refused"),
-            Failure::Faulty => f.write_str("refused"),
-            Failure::WrongUse(what) => f.write_str(what),
-            Failure::WordCount(verb) => write!(
+            WrongUse::Input(what) => f.write_str(what),
+            WrongUse::WordCount(verb) => write!(
                 f,
                 "the number of words is wrong: expected krbtoken {}",
                 help::words(*verb)
             ),
-            Failure::Io(what, error) => write!(f, "{what}: {}", Reason(*error)),
+            WrongUse::Io(what, error) => write!(f, "{what}: {}", Reason(*error)),
         }
     }
 }
@@ -89,15 +102,15 @@ impl<W: fmt::Write> fmt::Write for BeforeNumber<'_, W> {
 // Tells how a run ended, and returns its status: 0 if it is done, 1 if something was refused, and 2 for wrong use. If standard error
 // can't be written, there is nobody left to tell.
 pub fn told(rt: HostRuntime, ended: Result<(), Failure>) -> u8 {
-    let failure = match ended {
+    let wrong = match ended {
         Ok(()) => return 0,
         Err(Failure::Faulty) => return 1,
         Err(Failure::Refused(refusal)) => match println!(rt; "{}", Refused(refusal)) {
             Ok(()) => return 1,
-            Err(error) => Failure::from(error),
+            Err(error) => unwritten(error),
         },
-        Err(failure) => failure,
+        Err(Failure::WrongUse(wrong)) => wrong,
     };
-    let _ = eprintln!(rt; "krbtoken: {failure}");
+    let _ = eprintln!(rt; "krbtoken: {wrong}");
     2
 }

@@ -1,7 +1,7 @@
 // What is read: standard input and files, to their ends.
 ghost use Rattle.std.specs.Prelude.{◌≤◌, length, IfOk};
 
-use crate::failure::Failure;
+use crate::failure::WrongUse;
 use std::io;
 use std::io::Read;
 
@@ -12,8 +12,8 @@ pub const BUFFER: usize = 65537;
 pub const UNREADABLE: &str = "standard input can't be read";
 
 // Says that standard input can't be read.
-pub fn unreadable(error: io::Error) -> Failure {
-    Failure::Io(UNREADABLE, error)
+pub fn unreadable(error: io::Error) -> WrongUse {
+    WrongUse::Io(UNREADABLE, error)
 }
 
 // Reads until the input ends, and returns how many octets it has. An input that fills the buffer is too long.
@@ -22,7 +22,7 @@ pub fn read(
     buf: &mut [u8],
     too_long: &'static str,
     unreadable: &'static str,
-) -> Result<usize, Failure>
+) -> Result<usize, WrongUse>
     ensures { IfOk result (λ n. n ≤ length buf.new) }
 {
     let mut n: usize = 0;
@@ -30,14 +30,14 @@ pub fn read(
         match from.read(&mut buf[n..]) {
             Ok(0) => return Ok(n),
             Ok(more) => n += more,
-            Err(error) => return Err(Failure::Io(unreadable, error)),
+            Err(error) => return Err(WrongUse::Io(unreadable, error)),
         }
     }
-    Err(Failure::WrongUse(too_long))
+    Err(WrongUse::Input(too_long))
 }
 
 // Reads standard input, of at most 65,536 octets.
-pub fn standard(rt: HostRuntime, buf: &mut [u8]) -> Result<usize, Failure>
+pub fn standard(rt: HostRuntime, buf: &mut [u8]) -> Result<usize, WrongUse>
     ensures { IfOk result (λ n. n ≤ length buf.new) }
 {
     read(

@@ -1,6 +1,6 @@
 // The verbs that print sixteen octets: the key of a password, and the keyed checksum.
 use crate::arguments::Arguments;
-use crate::failure::Failure;
+use crate::failure::{Failure, WrongUse};
 use crate::{answers, input, output};
 use text::utf8;
 use text::utf8::TextError;
@@ -11,8 +11,8 @@ const PASSWORD_BUFFER: usize = 1026;
 
 const TOO_LONG: &str = "standard input is too long: expected at most 1024 octets";
 
-fn wrong_password(error: TextError) -> Failure {
-    Failure::WrongUse(match error {
+fn wrong_password(error: TextError) -> WrongUse {
+    WrongUse::Input(match error {
         TextError::NotUtf8 => "the password is wrong: expected UTF-8",
         TextError::TooLong => TOO_LONG,
     })

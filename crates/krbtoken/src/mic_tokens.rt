@@ -2,7 +2,7 @@
 ghost use Rattle.std.specs.Prelude.{◌≤◌, length, IfOk};
 
 use crate::arguments::Arguments;
-use crate::failure::Failure;
+use crate::failure::{Failure, WrongUse};
 use crate::forms::{Bare, Form, Framed};
 use crate::{input, output};
 use tokens::context::Context;
@@ -43,12 +43,12 @@ fn verify_input<F: Form>(rt: HostRuntime, context: Context, token: &[u8]) -> Res
 }
 
 // Reads the token file that the next word names, and returns how many octets it has.
-fn token_file(arguments: &mut Arguments, buf: &mut [u8]) -> Result<usize, Failure>
+fn token_file(arguments: &mut Arguments, buf: &mut [u8]) -> Result<usize, WrongUse>
     ensures { IfOk result (λ n. n ≤ length buf.new) }
 {
     let mut file = arguments
         .file()
-        .map_err(|error| Failure::Io(NO_TOKEN, error))?;
+        .map_err(|error| WrongUse::Io(NO_TOKEN, error))?;
     input::read(&mut file, buf, LONG_TOKEN, NO_TOKEN)
 }
 

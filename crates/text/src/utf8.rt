@@ -3,6 +3,7 @@ ghost use Rattle.std.specs.Prelude.{◌≡◌, ◌+◌, ◌≤◌, ◌<◌, leng
 ghost use Rattle.text.specs.Utf8 as Spec;
 
 use crate::units::Units;
+use std::error::Error;
 use std::fmt;
 
 // Why a text has no units.
@@ -20,6 +21,8 @@ impl fmt::Display for TextError {
         })
     }
 }
+
+impl Error for TextError {}
 
 // The character at the front of some octets: how many of them it takes, and its number.
 #[derive(Clone, Copy, Debug, PartialEq, Eq)]

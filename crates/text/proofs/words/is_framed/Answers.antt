@@ -1,7 +1,6 @@
 -- The answer of the comparison.
-use Rattle.std.proofs.Common.{◌∙◌, ap}
+use Rattle.std.proofs.Common.{eqb, ◌∙◌, ap}
 use Rattle.std.specs.Cmp.Lexicographic.{pointwise}
-use Rattle.std.proofs.Common.{eqb}
 use Rattle.text.specs.Words.{ascii, is_framed}
 use Rattle.text.proofs.Equal.{compared}
 use Rattle.text.proofs.words.is_framed.Goals as goal

@@ -1,49 +1,17 @@
-// The words of the command line, each by its place. A word that is wrong is told on standard error; it is never repeated there, since
-// it may be a key.
+// The words of the command line, one after the other. A word that is wrong is never repeated in what is told of it, since it may be a key.
 ghost use Rattle.std.specs.Prelude.{◌≤◌, length};
 
-use crate::exit::Exit;
-use crate::input::Ending;
-use crate::{help, input, output};
+use crate::failure::WrongUse;
+use crate::{help, input};
 use std::env::FillError;
 use std::fs::File;
 use std::io;
 use std::io::ErrorKind;
 use std::rt::Env;
-use text::decimal::Number;
-use text::words::{SealingWord, SenderWord, StrengthWord, Verb};
+use text::words::Verb;
 use text::{decimal, hex, words};
-use tokens::checks;
 use tokens::context::{Context, Sender};
 use tokens::strength::Strength;
-
-// A key, or zeros if there is none.
-#[derive(Clone, Copy)]
-pub struct KeyWord {
-    pub is_right: bool,
-    pub octets: [u8; 16],
-}
-
-// A confounder, or zeros if there is none.
-#[derive(Clone, Copy)]
-pub struct ConfounderWord {
-    pub is_right: bool,
-    pub octets: [u8; 8],
-}
-
-// A context, of zeros if it is not right.
-#[derive(Clone, Copy)]
-pub struct ContextWords {
-    pub is_right: bool,
-    pub context: Context,
-}
-
-// Whether a token is framed.
-#[derive(Clone, Copy)]
-pub enum FramedWord {
-    Is(bool),
-    Wrong,
-}
 
 // The most octets of a word that are looked at. A path is shorter.
 const WORD: usize = 4096;
@@ -51,277 +19,165 @@ const WORD: usize = 4096;
 // The system's number for a path that is too long.
 const NAME_TOO_LONG: i32 = 36;
 
-// Copies the word at `at` into a buffer and returns its length, 0 if there is no such word. A word that is longer than the buffer is cut off.
-fn read_word(rt: HostRuntime, at: usize, buf: &mut [u8]) -> usize
-    ensures { result ≤ length buf.new }
-{
-    match rt.arg(at, buf) {
-        Ok(n) => n,
-        Err(FillError::TooLong) => buf.len(),
-        Err(FillError::NotPresent) => 0,
+const WRONG_KEY: &str =
+    "the key file is wrong: expected 32 hexadecimal digits and at most one newline after them";
+
+const NO_KEY: &str = "the key file can't be read, expected 32 hexadecimal digits";
+
+// The words of the command line that were not read yet.
+#[derive(Clone, Copy)]
+pub struct Arguments {
+    pub rt: HostRuntime,
+    next: usize,
+}
+
+impl Arguments {
+    // The words after the program's name.
+    pub fn new(rt: HostRuntime) -> Arguments {
+        Arguments { rt, next: 1 }
     }
-}
 
-// Whether there is a word at `at`.
-fn is_there(rt: HostRuntime, at: usize) -> bool {
-    !matches!(rt.arg(at, &mut []), Err(FillError::NotPresent))
-}
+    // Reads the next word into a buffer. It is empty if there is none, and cut off if it is longer than the buffer.
+    fn read<'a>(&mut self, buf: &'a mut [u8; WORD]) -> &'a [u8] {
+        let at = self.next;
+        self.next = at.saturating_add(1);
+        let length = match self.rt.arg(at, buf) {
+            Ok(length) => length,
+            Err(FillError::TooLong) => WORD,
+            Err(FillError::NotPresent) => 0,
+        };
+        &buf[..length]
+    }
 
-// How many words there are, with the program's name.
-fn word_count(rt: HostRuntime) -> usize {
-    for n in 0..usize::MAX {
-        if !is_there(rt, n) {
-            return n;
+    // What the next word means, or what is told if it means nothing.
+    fn meaning<T, F: Fn(&[u8]) -> Option<T>>(
+        &mut self,
+        meaning_of: F,
+        wrong: &'static str,
+    ) -> Result<T, WrongUse>
+        requires { F.IsAlwaysCallable meaning_of }
+    {
+        let mut buf = [0; WORD];
+        meaning_of(self.read(&mut buf)).ok_or(WrongUse::Input(wrong))
+    }
+
+    fn is_there(&self, at: usize) -> bool {
+        !matches!(self.rt.arg(at, &mut []), Err(FillError::NotPresent))
+    }
+
+    // How many words are left.
+    fn left(&self) -> usize {
+        (0..usize::MAX)
+            .find(|n| !self.is_there(self.next.saturating_add(*n)))
+            .unwrap_or(usize::MAX)
+    }
+
+    // Whether the next word asks for the status. If so, it is read.
+    pub fn asks_status(&mut self) -> bool {
+        let mut ahead = *self;
+        let mut buf = [0; WORD];
+        let asks = ahead.read(&mut buf) == b"--status".as_slice();
+        if asks {
+            *self = ahead;
+        }
+        asks
+    }
+
+    // The verb, if as many words stand after it as it takes.
+    pub fn verb(&mut self) -> Result<Verb, WrongUse> {
+        let verb = self.meaning(
+            words::verb_of,
+            "the verb is missing or unknown: expected key, open, wrap, verify, mic, decrypt, encrypt, checksum, bill or help",
+        )?;
+        if help::counts(verb).contains(&self.left()) {
+            Ok(verb)
+        } else {
+            Err(WrongUse::WordCount(verb))
         }
     }
-    usize::MAX
-}
 
-// Opens the file that the word at `at` names, for reading. A path is taken only if it is UTF-8.
-pub fn open(rt: HostRuntime, at: usize) -> io::Result<File> {
-    let mut word = [0u8; WORD];
-    let n = read_word(rt, at, &mut word);
-    if n == WORD {
-        return Err(io::Error::from_raw_os_error(NAME_TOO_LONG));
+    pub fn strength(&mut self) -> Result<Strength, WrongUse> {
+        self.meaning(
+            words::strength_of,
+            "the strength is wrong: expected full or export",
+        )
     }
-    match str::from_utf8(&word[..n]) {
-        Ok(path) => File::open(&rt, path),
-        Err(_) => Err(io::Error::from(ErrorKind::InvalidFilename)),
-    }
-}
 
-// Whether the word at `at` asks for the status.
-pub fn asks_status(rt: HostRuntime, at: usize) -> bool {
-    let mut word = [0u8; WORD];
-    let n = read_word(rt, at, &mut word);
-    checks::same(&word[..n], b"--status")
-}
+    fn sender(&mut self) -> Result<Sender, WrongUse> {
+        self.meaning(
+            words::sender_of,
+            "the sender is wrong: expected initiator or acceptor",
+        )
+    }
 
-// The verb, at `at`.
-pub fn verb(rt: HostRuntime, at: usize) -> Verb {
-    let mut word = [0u8; WORD];
-    let n = read_word(rt, at, &mut word);
-    words::verb_of(&word[..n])
-}
+    // Whether the message is to be sealed.
+    pub fn sealing(&mut self) -> Result<bool, WrongUse> {
+        self.meaning(
+            words::sealing_of,
+            "the word for sealing is wrong: expected sealed or clear",
+        )
+    }
 
-// The fewest words that a verb takes after it, and the most.
-#[derive(Clone, Copy)]
-struct Taken {
-    least: usize,
-    most: usize,
-}
+    // Whether the last word is there and says framed.
+    pub fn framed(&mut self) -> Result<bool, WrongUse> {
+        if self.left() == 0 {
+            return Ok(false);
+        }
+        self.meaning(
+            |word| words::is_framed(word).then_some(true),
+            "the last word is wrong: expected framed, or nothing",
+        )
+    }
 
-fn count(verb: Verb) -> Taken {
-    match verb {
-        Verb::Key => Taken { least: 0, most: 0 },
-        Verb::Open => Taken { least: 3, most: 4 },
-        Verb::Wrap => Taken { least: 6, most: 7 },
-        Verb::Verify => Taken { least: 4, most: 5 },
-        Verb::Mic => Taken { least: 4, most: 5 },
-        Verb::Decrypt => Taken { least: 3, most: 3 },
-        Verb::Encrypt => Taken { least: 4, most: 4 },
-        Verb::Checksum => Taken { least: 2, most: 2 },
-        Verb::Bill => Taken { least: 4, most: 4 },
-        Verb::Help => Taken { least: 0, most: 0 },
-        Verb::Unknown => Taken {
-            least: 0,
-            most: usize::MAX,
-        },
+    pub fn sequence(&mut self) -> Result<u32, WrongUse> {
+        self.meaning(
+            decimal::read,
+            "the sequence number is wrong: expected a whole number from 0 to 4294967295, in decimal",
+        )
     }
-}
 
-// How many words stand after the one at `at`.
-fn words_after(rt: HostRuntime, at: usize) -> usize {
-    let all = word_count(rt);
-    if all <= at {
-        return 0;
+    // A usage. Which numbers are usages is left to the library.
+    pub fn usage(&mut self) -> Result<u32, WrongUse> {
+        self.meaning(
+            decimal::read,
+            "the usage is wrong: expected a whole number from 1 to 15, in decimal",
+        )
     }
-    all - at - 1
-}
 
-// Whether as many words stand after the verb at `at` as it takes.
-pub fn counted(rt: HostRuntime, verb: Verb, at: usize) -> Exit {
-    let given = words_after(rt, at);
-    let taken = count(verb);
-    if given < taken.least {
-        return help::wrong_count(rt, verb);
+    pub fn confounder(&mut self) -> Result<[u8; 8], WrongUse> {
+        self.meaning(
+            hex::decode::<8>,
+            "the confounder is wrong: expected 16 hexadecimal digits",
+        )
     }
-    if taken.most < given {
-        return help::wrong_count(rt, verb);
-    }
-    Exit::Done
-}
 
-pub fn strength(rt: HostRuntime, at: usize) -> StrengthWord {
-    let mut word = [0u8; WORD];
-    let n = read_word(rt, at, &mut word);
-    let strength = words::strength_of(&word[..n]);
-    if let StrengthWord::Wrong = strength {
-        output::wrong_use(rt, b"the strength is wrong: expected full or export");
+    // Opens the file that the next word names, for reading. A path is taken only if it is UTF-8.
+    pub fn file(&mut self) -> io::Result<File> {
+        let mut buf = [0; WORD];
+        let word = self.read(&mut buf);
+        if word.len() == WORD {
+            return Err(io::Error::from_raw_os_error(NAME_TOO_LONG));
+        }
+        match str::from_utf8(word) {
+            Ok(path) => File::open(&self.rt, path),
+            Err(_) => Err(io::Error::from(ErrorKind::InvalidFilename)),
+        }
     }
-    strength
-}
 
-pub fn sender(rt: HostRuntime, at: usize) -> SenderWord {
-    let mut word = [0u8; WORD];
-    let n = read_word(rt, at, &mut word);
-    let sender = words::sender_of(&word[..n]);
-    if let SenderWord::Wrong = sender {
-        output::wrong_use(rt, b"the sender is wrong: expected initiator or acceptor");
+    // The key in the file that the next word names: 32 digits, and at most one newline after them.
+    pub fn key(&mut self) -> Result<[u8; 16], WrongUse> {
+        let mut file = self.file().map_err(|error| WrongUse::Io(NO_KEY, error))?;
+        let mut buf = [0; 64];
+        let length = input::read(&mut file, &mut buf, WRONG_KEY, NO_KEY)?;
+        hex::decode(input::without_newline(&buf[..length])).ok_or(WrongUse::Input(WRONG_KEY))
     }
-    sender
-}
 
-pub fn sealing(rt: HostRuntime, at: usize) -> SealingWord {
-    let mut word = [0u8; WORD];
-    let n = read_word(rt, at, &mut word);
-    let sealing = words::sealing_of(&word[..n]);
-    if let SealingWord::Wrong = sealing {
-        output::wrong_use(
-            rt,
-            b"the word for sealing is wrong: expected sealed or clear",
-        );
-    }
-    sealing
-}
-
-// Whether the last word, at `at`, is there and says framed.
-pub fn framed(rt: HostRuntime, at: usize) -> FramedWord {
-    if !is_there(rt, at) {
-        return FramedWord::Is(false);
-    }
-    let mut word = [0u8; WORD];
-    let n = read_word(rt, at, &mut word);
-    if words::is_framed(&word[..n]) {
-        return FramedWord::Is(true);
-    }
-    output::wrong_use(rt, b"the last word is wrong: expected framed, or nothing");
-    FramedWord::Wrong
-}
-
-fn number(rt: HostRuntime, at: usize) -> Number {
-    let mut word = [0u8; WORD];
-    let n = read_word(rt, at, &mut word);
-    decimal::read(&word[..n])
-}
-
-pub fn sequence(rt: HostRuntime, at: usize) -> Number {
-    let sequence = number(rt, at);
-    if let Number::Wrong = sequence {
-        output::wrong_use(
-            rt,
-            b"the sequence number is wrong: expected a whole number from 0 to 4294967295, in decimal",
-        );
-    }
-    sequence
-}
-
-// A usage. Which numbers are usages is left to the library.
-pub fn usage(rt: HostRuntime, at: usize) -> Number {
-    let usage = number(rt, at);
-    if let Number::Wrong = usage {
-        output::wrong_use(
-            rt,
-            b"the usage is wrong: expected a whole number from 1 to 15, in decimal",
-        );
-    }
-    usage
-}
-
-pub fn confounder(rt: HostRuntime, at: usize) -> ConfounderWord {
-    let mut word = [0u8; WORD];
-    let n = read_word(rt, at, &mut word);
-    let mut octets = [0u8; 8];
-    let is_right = hex::decode(&word[..n], &mut octets);
-    if !is_right {
-        output::wrong_use(
-            rt,
-            b"the confounder is wrong: expected 16 hexadecimal digits",
-        );
-    }
-    ConfounderWord {
-        is_right: is_right,
-        octets: octets,
-    }
-}
-
-// The key that a text says: 32 digits, and at most one newline after them.
-fn key_in(rt: HostRuntime, text: &[u8]) -> KeyWord {
-    let n = input::without_newline(text);
-    let mut octets = [0u8; 16];
-    let is_right = hex::decode(&text[..n], &mut octets);
-    if !is_right {
-        output::wrong_use(
-            rt,
-            b"the key file is wrong: expected 32 hexadecimal digits and at most one newline after them",
-        );
-    }
-    KeyWord {
-        is_right: is_right,
-        octets: octets,
-    }
-}
-
-fn no_key(rt: HostRuntime, error: io::Error) -> KeyWord {
-    output::fail(
-        rt,
-        b"the key file can't be read, expected 32 hexadecimal digits",
-        error,
-    );
-    KeyWord {
-        is_right: false,
-        octets: [0u8; 16],
-    }
-}
-
-// The key in the file that the word at `at` names.
-pub fn key(rt: HostRuntime, at: usize) -> KeyWord {
-    let mut file = match open(rt, at) {
-        Ok(file) => file,
-        Err(error) => return no_key(rt, error),
-    };
-    let mut text = [0u8; 64];
-    let read = input::read(&mut file, &mut text);
-    let ending = read.ending;
-    if let Ending::Failed(error) = ending {
-        return no_key(rt, error);
-    }
-    let count = read.count;
-    key_in(rt, &text[..count])
-}
-
-fn no_context() -> ContextWords {
-    ContextWords {
-        is_right: false,
-        context: Context {
-            key: [0u8; 16],
-            strength: Strength::Full,
-            sender: Sender::Initiator,
-        },
-    }
-}
-
-// The key, the strength and the sender in the three words from `at`.
-pub fn context(rt: HostRuntime, at: usize) -> ContextWords
-    requires { at ≤ 3 }
-{
-    let key = key(rt, at);
-    if !key.is_right {
-        return no_context();
-    }
-    let StrengthWord::Is(strength) = strength(rt, at + 1) else {
-        return no_context();
-    };
-    let SenderWord::Is(sender) = sender(rt, at + 2) else {
-        return no_context();
-    };
-    let octets = key.octets;
-    ContextWords {
-        is_right: true,
-        context: Context {
-            key: octets,
-            strength: strength,
-            sender: sender,
-        },
+    // The key, the strength and the sender.
+    pub fn context(&mut self) -> Result<Context, WrongUse> {
+        Ok(Context {
+            key: self.key()?,
+            strength: self.strength()?,
+            sender: self.sender()?,
+        })
     }
 }

@@ -1,73 +1,38 @@
 // The verbs that print sixteen octets: the key of a password, and the keyed checksum.
-ghost use Rattle.std.specs.Prelude.{◌≤◌};
-
-use crate::exit::Exit;
-use crate::input::Ending;
-use crate::{arguments, input, output};
-use text::decimal::Number;
+use crate::arguments::Arguments;
+use crate::failure::{Failure, WrongUse};
+use crate::{answers, input, output};
 use text::utf8;
-use text::utf8::Reading;
-use tokens::answer::{Digest, Status};
+use text::utf8::TextError;
 use tokens::{checksum, key};
 
 // Octets of the longest password with a newline after it, and one more.
 const PASSWORD_BUFFER: usize = 1026;
 
-fn digest(rt: HostRuntime, answer: Digest) -> Exit {
-    let status = answer.status;
-    let octets = answer.octets;
-    match status {
-        Status::Done => output::digits(rt, &octets),
-        Status::Refused(refusal) => output::refused(rt, refusal),
-    }
+const TOO_LONG: &str = "standard input is too long: expected at most 1024 octets";
+
+fn wrong_password(error: TextError) -> WrongUse {
+    WrongUse::Input(match error {
+        TextError::NotUtf8 => "the password is wrong: expected UTF-8",
+        TextError::TooLong => TOO_LONG,
+    })
 }
 
 // Prints the key of a password, which ends before one closing newline.
-fn print_key(rt: HostRuntime, line: &[u8]) -> Exit {
-    let end = input::without_newline(line);
-    let text = utf8::units(&line[..end]);
-    let n = text.count;
-    let units = text.units;
-    let reading = text.reading;
-    match reading {
-        Reading::Units => digest(rt, key::password_key(&units[..n])),
-        Reading::NotUtf8 => output::wrong_use(rt, b"the password is wrong: expected UTF-8"),
-        Reading::TooLong => {
-            output::wrong_use(
-                rt,
-                b"standard input is too long: expected at most 1024 octets",
-            )
-        }
-    }
+pub fn key(rt: HostRuntime) -> Result<(), Failure> {
+    let mut buf = [0; PASSWORD_BUFFER];
+    let n = input::read(&mut rt.stdin(), &mut buf, TOO_LONG, input::UNREADABLE)?;
+    let units = utf8::units(input::without_newline(&buf[..n])).map_err(wrong_password)?;
+    let key = answers::digest(key::password_key(units.as_slice()))?;
+    output::digits(rt, &key)
 }
 
-pub fn key(rt: HostRuntime) -> Exit {
-    let mut buf = [0u8; PASSWORD_BUFFER];
-    let read = input::read(&mut rt.stdin(), &mut buf);
-    let ending = read.ending;
-    if let Ending::Failed(error) = ending {
-        return input::unreadable(rt, error);
-    }
-    let count = read.count;
-    print_key(rt, &buf[..count])
-}
-
-pub fn checksum(rt: HostRuntime, at: usize) -> Exit
-    requires { at ≤ 2 }
-{
-    let key = arguments::key(rt, at + 1);
-    if !key.is_right {
-        return Exit::WrongUse;
-    }
-    let Number::Value(usage) = arguments::usage(rt, at + 2) else {
-        return Exit::WrongUse;
-    };
-    let mut buf = [0u8; input::BUFFER];
-    let read = input::standard(rt, &mut buf);
-    if !read.is_whole {
-        return Exit::WrongUse;
-    }
-    let count = read.count;
-    let octets = key.octets;
-    digest(rt, checksum::checksum(octets, usage, &buf[..count]))
+pub fn checksum(arguments: &mut Arguments) -> Result<(), Failure> {
+    let key = arguments.key()?;
+    let usage = arguments.usage()?;
+    let rt = arguments.rt;
+    let mut data = [0; input::BUFFER];
+    let n = input::standard(rt, &mut data)?;
+    let checksum = answers::digest(checksum::checksum(key, usage, &data[..n]))?;
+    output::digits(rt, &checksum)
 }

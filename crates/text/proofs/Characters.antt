@@ -2,7 +2,7 @@
 use mathlib.Core.Path.{◌≡◌, refl, ap, ◌∙◌}
 use mathlib.Core.Bool.{Bool, true, false, cond, ◌&&◌, ◌||◌}
 use mathlib.Core.List.{List, [], ◌∷◌, ◌++◌}
-use Prim.Native.Nat.{ℕ, ◌+◌, ◌*◌, ◌-◌, ◌/◌, ◌%◌, ◌≤◌, ◌<◌}
+use Prim.Native.Nat.{ℕ, zero, suc, ◌+◌, ◌*◌, ◌-◌, ◌/◌, ◌%◌, ◌≤◌, ◌<◌}
 use native.Mathlib.Omega.{arith}
 use lib.Dec.{leb, ltb}
 use native.Mathlib.Numerals.{add-one}
@@ -12,21 +12,14 @@ use borrow.Author.Tests.{ltb-true, ltb-false, lt-ltb, le-ltb, leb-true, le-leb, 
 use Rattle.tokens.proofs.SameOctets.{same_true, same_self}
 use Rattle.tokens.specs.Octets.{same}
 use Rattle.text.specs.Utf8.{is_character, utf8, utf16, width, leading_bits, value_after, value, front, character_in}
-use Rattle.text.specs.declared.utf8.Character.TheVariants.{Number, Wrong}
+use Rattle.std.specs.Prelude.{Option, Some, None}
+use Rattle.text.specs.declared.utf8.Character.{Character}
+
+-- a character of so many octets and of a number
+abbrev pub numbered : ℕ → ℕ → Option Character
+numbered w v = Some (record { width = w; value = v })
 
 -- ---- Which numbers are characters
-
-pub low_character : (n : ℕ) → n < 55296 → is_character n ≡ true
-unfolding is_character
-low_character n h = rw (lt-ltb n 55296) refl
-
-pub surrogate : (n : ℕ) → 55296 ≤ n → n < 57344 → is_character n ≡ false
-unfolding is_character
-surrogate n h k = rw (le-ltb n 55296, lt-leb 57344 n) refl
-
-pub high_character : (n : ℕ) → 57344 ≤ n → is_character n ≡ ltb n 1114112
-unfolding is_character
-high_character n h = rw (le-ltb n 55296 (omega arith), le-leb 57344 n) refl
 
 pub character_most : (n : ℕ) → is_character n ≡ true → n < 1114112
 unfolding is_character
@@ -93,6 +86,15 @@ pub value_all : (n : ℕ) (octets : List ℕ) (i : ℕ) → length octets ≤ i 
 unfolding value_after
 value_all n octets i h = ap (value_after n) (drop_of_length-le octets {i = i} h)
 
+-- the first of them, and those after it
+pub value_of_front : (octets : List ℕ) (w : ℕ) → 1 ≤ length octets → 1 ≤ w → value_after (leading_bits (get_or octets 0 0)) (take (w - 1) (drop 1 octets)) ≡ value (take w octets)
+unfolding value
+value_of_front [] w h k = absurd (omega arith)
+value_of_front (c ∷ octets) zero h k = absurd (omega arith)
+value_of_front (c ∷ octets) (suc w) h k =
+    let less : suc w - 1 ≡ w = omega arith in
+    rw less
+
 -- ---- A character is read from its octets
 
 -- six bits more
@@ -134,7 +136,7 @@ written c most = decided (ltb c 128) (ltb c 2048) (ltb c 65536) refl refl refl
         let number = six_more _ c (six_more _ (c / 64) (six_more _ (c / 4096) (said.1 ∙ omega arith) ∙ parted)) in
         rw (utf8_four c least, utf16_two c least) (record { first = λ rest. said.0; number = number; some = omega arith; no_more = omega arith })
 
-pub front_back : (c : ℕ) (rest : List ℕ) → is_character c ≡ true → character_in (utf8 c ++ rest) ≡ Number (length (utf8 c)) c
+pub front_back : (c : ℕ) (rest : List ℕ) → is_character c ≡ true → character_in (utf8 c ++ rest) ≡ numbered (length (utf8 c)) c
 unfolding character_in front
 front_back c rest e =
     let w = written c (character_most c e) in
@@ -143,20 +145,28 @@ front_back c rest e =
 
 -- ---- Each way in which the front of some octets is read
 
-pub cut_short : (octets : List ℕ) → length octets < width (get_or octets 0 0) → character_in octets ≡ Wrong
+pub cut_short : (octets : List ℕ) → length octets < width (get_or octets 0 0) → character_in octets ≡ None
 unfolding character_in
 cut_short octets h = rw (lt-leb _ _ h) refl
 
 -- all octets that the first one announces are there
 pub found : (octets : List ℕ) (w v : ℕ) → w ≡ width (get_or octets 0 0) → v ≡ value (take w octets) → w ≤ length octets
-    → character_in octets ≡ cond (is_character v && same (take w octets) (utf8 v)) (Number w v) Wrong
+    → character_in octets ≡ cond (is_character v && same (take w octets) (utf8 v)) (numbered w v) None
 unfolding character_in front
 found octets w v ew ev h = rw (ev, ew, le-leb _ _ (rw ew at h)) refl
 
 -- ---- What was read
 
-pub wrong_number : (w v : ℕ) → Wrong ≡ Number w v → ⊥
-wrong_number w v e = let z : ◌≡◌ {A = ℕ} 0 1 = cc in omega arith
+pub wrong_number : (w v : ℕ) → None ≡ numbered w v → ⊥
+wrong_number w v e = cc
+
+same_numbered : (w v x y : ℕ) → numbered w v ≡ numbered x y → (w ≡ x) × (v ≡ y)
+same_numbered w v x y e =
+    let same_one : ◌≡◌ {A = Character} (record { width = w; value = v }) (record { width = x; value = y }) = cc in
+    (ap (λ (c : Character). c.width) same_one, ap (λ (c : Character). c.value) same_one)
+
+pub same_number : {w v x y : ℕ} → numbered w v ≡ numbered x y → v ≡ y
+same_number {w} {v} {x} {y} e = (same_numbered w v x y e).1
 
 -- the octets are those of a character, and all of them are there
 pub record Found (octets : List ℕ) (w v : ℕ) : Type 0 where
@@ -165,13 +175,15 @@ pub record Found (octets : List ℕ) (w v : ℕ) : Type 0 where
   pub form : take w octets ≡ utf8 v
 
 -- all three tests held
-all_held : (a b c : Bool) (w v x y : ℕ) → cond (a && (b && c)) (Number w v) Wrong ≡ Number x y → (a ≡ true) × (b ≡ true) × (c ≡ true) × (w ≡ x) × (v ≡ y)
-all_held true true true w v x y e = (refl, refl, refl, cc, cc)
+all_held : (a b c : Bool) (w v x y : ℕ) → cond (a && (b && c)) (numbered w v) None ≡ numbered x y → (a ≡ true) × (b ≡ true) × (c ≡ true) × (w ≡ x) × (v ≡ y)
+all_held true true true w v x y e =
+    let one = same_numbered w v x y e in
+    (refl, refl, refl, one.0, one.1)
 all_held true true false w v x y e = absurd (wrong_number x y e)
 all_held true false c w v x y e = absurd (wrong_number x y e)
 all_held false b c w v x y e = absurd (wrong_number x y e)
 
-pub was_found : (octets : List ℕ) (w v : ℕ) → character_in octets ≡ Number w v → Found octets w v
+pub was_found : (octets : List ℕ) (w v : ℕ) → character_in octets ≡ numbered w v → Found octets w v
 unfolding character_in front
 was_found octets w v e =
     let said = width (get_or octets 0 0) in

@@ -8,11 +8,11 @@ use native.Mathlib.Numerals.{add-one}
 use lib.Dec.{ltb}
 use lib.ListN.{length, get_or, set, take, drop, length-append, drop_of_length-le}
 use lib.Seq.{drop-cons, take_all, take-length, take-suc-set, length-take-le, set_at}
-use borrow.Author.Tests.{ltb-true, ltb-false, lt-ltb, le-ltb, le-leb, lt-leb, eq-eqb, ne_eqb}
+use borrow.Author.Tests.{ltb-true, ltb-false, lt-ltb, le-leb, lt-leb, eq-eqb, ne_eqb}
 use Rattle.primitives.specs.Octets.{Octets}
 use Rattle.tokens.specs.Limits.{placed}
-use Rattle.tokens.proofs.Steps.{both}
-use Rattle.text.specs.Hex.{digit, digits, value, are_digits, spells, octets_of, fitting, decoded, ReadBack}
+use Rattle.text.specs.Hex.{digit, digits, value, octet, are_digits, spells, octets_of, fitting, count, decode, ReadBack}
+use Rattle.std.specs.Prelude.{cond, ◌&&◌, Some, None}
 use Rattle.text.proofs.Ranges.{inside, beyond}
 
 -- ---- Stores, one after the other
@@ -20,27 +20,6 @@ use Rattle.text.proofs.Ranges.{inside, beyond}
 -- behind the octets that were stored so far, one more
 stored : (p out : List ℕ) (i a : ℕ) → length p ≡ i → i < length out → set (p ++ drop i out) i a ≡ (p ++ a ∷ []) ++ drop (i + 1) out
 stored p out i a e h = rw (drop-cons out i 0 h, set_at p (get_or out i 0) (drop (suc i) out) a i e, append_assoc p (a ∷ []) (drop (i + 1) out), add-one i)
-
--- ---- Which texts are digits
-
-module _ (text : List ℕ) (i : ℕ) where
-  pub next_digit : i < length text → value (get_or text i 0) < 16 → are_digits (drop i text) ≡ are_digits (drop (i + 1) text)
-  unfolding are_digits
-  next_digit h d = rw (drop-cons text i 0 h, lt-ltb (value (get_or text i 0)) 16 d, add-one i)
-
-  pub no_digit : i < length text → 16 ≤ value (get_or text i 0) → are_digits (drop i text) ≡ false
-  unfolding are_digits
-  no_digit h d = rw (drop-cons text i 0 h, le-ltb (value (get_or text i 0)) 16 d)
-
-  pub all_digits : length text ≤ i → are_digits (drop i text) ≡ true
-  unfolding are_digits
-  all_digits h = rw (drop_of_length-le text {i = i} h)
-
-pub digit_at : (text : List ℕ) (i : ℕ) → are_digits text ≡ true → i < length text → value (get_or text i 0) < 16
-unfolding are_digits
-digit_at [] i e h = absurd (omega arith)
-digit_at (c ∷ text) zero e h = ltb-true (value c) 16 (both (ltb (value c) 16) (are_digits text) e).0
-digit_at (c ∷ text) (suc i) e h = digit_at text i (both (ltb (value c) 16) (are_digits text) e).1 (omega arith)
 
 -- ---- Writing
 
@@ -78,69 +57,88 @@ module _ (octets out : List ℕ) where
         el,
       )
 
-  pub none_written : length out / 2 < length octets → (0 ≡ length (fitting octets out)) × (out ≡ placed 0 (fitting octets out) out)
-  unfolding fitting placed
+  pub none_written : length out / 2 < length octets → (None ≡ count octets out) × (out ≡ placed 0 (fitting octets out) out)
+  unfolding count fitting placed
   none_written h =
       let none = lt-leb (2 * length octets) (length out) (omega arith) in
       (rw none, rw none)
 
-  pub all_written : (now : List ℕ) (i : ℕ) → i ≡ length octets → 2 * length octets ≤ length out → now ≡ digits (take i octets) ++ drop (2 * i) out
-      → (2 * i ≡ length (fitting octets out)) × (now ≡ placed 0 (fitting octets out) out)
-  unfolding fitting placed
-  all_written now i all fits e =
+  pub all_written : (now : List ℕ) (i : ℕ) → length octets ≤ i → i ≤ length octets → 2 * length octets ≤ length out → now ≡ digits (take i octets) ++ drop (2 * i) out
+      → (Some (2 * length octets) ≡ count octets out) × (now ≡ placed 0 (fitting octets out) out)
+  unfolding count fitting placed
+  all_written now i high low fits e =
+      let all : i ≡ length octets = omega arith in
       let fit = le-leb (2 * length octets) (length out) fits in
       let size : 0 + length (digits octets) ≡ 2 * length octets = omega (arith, digits_length octets) in
-      (rw (fit, digits_length octets) (omega arith), rw (fit, e, all, take-length octets, size))
+      (rw (fit, digits_length octets), rw (fit, e, all, take-length octets, size))
 
 -- ---- Reading
 
-octets_next : (text : List ℕ) (i : ℕ) → 2 * i + 1 < length text
-    → octets_of (drop (2 * i) text) ≡ (16 * value (get_or text (2 * i) 0) + value (get_or text (2 * i + 1) 0)) ∷ octets_of (drop (2 * (i + 1)) text)
-unfolding octets_of
-octets_next text i h =
+-- two digits, and those after them
+pair : (text : List ℕ) (i : ℕ) → 2 * i + 1 < length text → drop (2 * i) text ≡ get_or text (2 * i) 0 ∷ get_or text (2 * i + 1) 0 ∷ drop (2 * (i + 1)) text
+pair text i h =
     let high : suc (2 * i) ≡ 2 * i + 1 = omega arith in
     let next : suc (2 * i + 1) ≡ 2 * (i + 1) = omega arith in
     rw (drop-cons text (2 * i) 0 (omega arith), high, drop-cons text (2 * i + 1) 0 h, next)
 
-module _ (text out : List ℕ) (i : ℕ) (e : take i out ++ octets_of (drop (2 * i) text) ≡ octets_of text) where
-  -- the text ahead says the octets after the i that were read, and those after one more
-  pub read_more : {high low : ℕ} → 2 * i + 1 < length text → i < length out → high ≡ value (get_or text (2 * i) 0) → low ≡ value (get_or text (2 * i + 1) 0)
-      → take (i + 1) (set out i (16 * high + low)) ++ octets_of (drop (2 * (i + 1)) text) ≡ octets_of text
-  read_more h k eh el =
-      let octet = 16 * value (get_or text (2 * i) 0) + value (get_or text (2 * i + 1) 0) in
-      rw (
-        eh,
-        el,
-        add-one i,
-        take-suc-set out i octet k,
-        append_assoc (take i out) (octet ∷ []) (octets_of (drop (2 * suc i) text)),
-        ← (add-one i),
-        ← (octets_next text i h),
-      )
-      e
+both_held : (a b : Bool) (y x : ℕ) → Some x ≡ cond (a && b) (Some y) None → (a ≡ true) × (b ≡ true) × (x ≡ y)
+both_held true true y x e = (refl, refl, cc)
+both_held true false y x e = cc
+both_held false b y x e = cc
 
-  pub read_all : length text ≤ 2 * i → length out ≤ i → out ≡ octets_of text
-  unfolding octets_of
-  read_all h k = sym (append-nil out) ∙ (rw (drop_of_length-le text {i = 2 * i} h, take_all i out k) at e)
+one_failed : (a b c : Bool) (y : ℕ) → None ≡ cond (a && b) (Some y) None → (a && (b && c)) ≡ false
+one_failed true true c y e = cc
+one_failed true false c y e = refl
+one_failed false b c y e = refl
 
-module _ (text out : List ℕ) where
-  kept : spells (length out) text ≡ false → (false ≡ spells (length out) text) × (out ≡ decoded text out)
-  unfolding decoded
-  kept e = (sym e, rw e)
+module _ (text : List ℕ) (i : ℕ) (h : 2 * i + 1 < length text) where
+  pub not_digits : None ≡ octet (get_or text (2 * i) 0) (get_or text (2 * i + 1) 0) → are_digits (drop (2 * i) text) ≡ false
+  unfolding octet are_digits
+  not_digits e = rw (pair text i h) (one_failed _ _ (are_digits (drop (2 * (i + 1)) text)) _ e)
 
-  pub other_length : (length text ≡ 2 * length out → ⊥) → (false ≡ spells (length out) text) × (out ≡ decoded text out)
-  unfolding spells
-  other_length h = kept (rw (ne_eqb (length text) (2 * length out) h))
+  module _ {x : ℕ} (e : Some x ≡ octet (get_or text (2 * i) 0) (get_or text (2 * i + 1) 0)) where
+    said_of : (ltb (value (get_or text (2 * i) 0)) 16 ≡ true) × (ltb (value (get_or text (2 * i + 1) 0)) 16 ≡ true)
+        × (x ≡ 16 * value (get_or text (2 * i) 0) + value (get_or text (2 * i + 1) 0))
+    unfolding octet
+    said_of = both_held _ _ _ x e
 
-  pub other_text : length text ≡ 2 * length out → are_digits text ≡ false → (false ≡ spells (length out) text) × (out ≡ decoded text out)
-  unfolding spells
-  other_text h e = kept (rw (eq-eqb (length text) (2 * length out) h, e))
+    pub more_digits : are_digits (drop (2 * i) text) ≡ are_digits (drop (2 * (i + 1)) text)
+    unfolding are_digits
+    more_digits = rw (pair text i h, said_of.0, said_of.1)
 
-  pub spelled : {now : List ℕ} → length text ≡ 2 * length out → are_digits text ≡ true → now ≡ octets_of text → (true ≡ spells (length out) text) × (now ≡ decoded text out)
-  unfolding spells decoded
-  spelled h e n =
-      let size = eq-eqb (length text) (2 * length out) h in
-      (rw (size, e), rw (size, e, n))
+    octets_next : octets_of (drop (2 * i) text) ≡ x ∷ octets_of (drop (2 * (i + 1)) text)
+    unfolding octets_of
+    octets_next = rw (pair text i h, said_of.2)
+
+    -- the text ahead says the octets after the i that were read, and those after one more
+    pub read_more : (octets : List ℕ) → i < length octets → take i octets ++ octets_of (drop (2 * i) text) ≡ octets_of text
+        → take (i + 1) (set octets i x) ++ octets_of (drop (2 * (i + 1)) text) ≡ octets_of text
+    read_more octets k said =
+        rw (
+          add-one i,
+          take-suc-set octets i x k,
+          append_assoc (take i octets) (x ∷ []) (octets_of (drop (2 * suc i) text)),
+          ← (add-one i),
+          ← octets_next,
+        )
+        said
+
+module _ (text : List ℕ) (n : ℕ) where
+  pub other_length : (length text ≡ 2 * n → ⊥) → None ≡ decode n text
+  unfolding spells decode
+  other_length h = rw (ne_eqb (length text) (2 * n) h)
+
+  pub other_text : length text ≡ 2 * n → are_digits text ≡ false → None ≡ decode n text
+  unfolding spells decode
+  other_text h e = rw (eq-eqb (length text) (2 * n) h, e)
+
+  pub spelled : (octets : List ℕ) → length octets ≡ n → length text ≡ 2 * n → are_digits text ≡ are_digits (drop (2 * n) text)
+      → take n octets ++ octets_of (drop (2 * n) text) ≡ octets_of text → Some octets ≡ decode n text
+  unfolding spells decode are_digits octets_of
+  spelled octets size h digits said =
+      let rest = drop_of_length-le text {i = 2 * n} (omega arith) in
+      let all : octets ≡ octets_of text = sym (append-nil octets) ∙ (rw (rest, take_all n octets (omega arith)) at said) in
+      rw (eq-eqb (length text) (2 * n) h, rw rest at digits, all)
 
 -- ---- What is written is read back
 

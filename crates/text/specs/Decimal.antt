@@ -1,7 +1,5 @@
 -- Numbers in decimal: what digits say, and which texts are numbers.
-use Rattle.std.specs.Prelude.{ℕ, ◌+◌, ◌*◌, ◌-◌, Bool, true, cond, ◌&&◌, List, [], ◌∷◌, leb, ltb, length}
-use Rattle.text.specs.declared.decimal.Number.{Number}
-use Rattle.text.specs.declared.decimal.Number.TheVariants.{Value, Wrong}
+use Rattle.std.specs.Prelude.{ℕ, ◌+◌, ◌*◌, ◌-◌, Bool, true, cond, ◌&&◌, List, [], ◌∷◌, leb, ltb, length, Option, Some, None}
 
 -- what a digit stands for, 0 to 9, and 10 for any other octet
 abbrev pub value : ℕ → ℕ
@@ -18,5 +16,5 @@ value_after n [] = n
 value_after n (c ∷ text) = value_after (10 * n + value c) text
 
 -- a text is a number if it is one digit or more, and says at most 2^32 - 1
-unfoldable pub read : List ℕ → Number
-read text = cond (leb 1 (length text) && (are_digits text && leb (value_after 0 text) 4294967295)) (Value (value_after 0 text)) Wrong
+unfoldable pub read : List ℕ → Option ℕ
+read text = cond (leb 1 (length text) && (are_digits text && leb (value_after 0 text) 4294967295)) (Some (value_after 0 text)) None

@@ -1,12 +1,10 @@
 -- UTF-8 and UTF-16: how characters are written (RFC 3629, section 3; RFC 2781, section 2.1), and that a text is read exactly when it is
 -- written so.
-use Rattle.std.specs.Prelude.{ℕ, ◌+◌, ◌*◌, ◌-◌, ◌/◌, ◌%◌, ◌≤◌, ◌<◌, ◌≡◌, Bool, true, cond, ◌&&◌, ◌||◌, List, [], ◌∷◌, ◌++◌, leb, ltb, length, get_or, take, drop, replicate}
+use Rattle.std.specs.Prelude.{ℕ, ◌+◌, ◌*◌, ◌-◌, ◌/◌, ◌%◌, ◌≤◌, ◌<◌, ◌≡◌, Bool, true, cond, ◌&&◌, ◌||◌, List, [], ◌∷◌, ◌++◌, leb, ltb, length, get_or, take, drop, Option, Some, None, Result, Ok, Err}
 use Rattle.tokens.specs.Octets.{same}
 use Rattle.text.specs.declared.utf8.Character.{Character}
-use Rattle.text.specs.declared.utf8.Character.TheVariants as character
-use Rattle.text.specs.declared.utf8.Reading.{Reading}
-use Rattle.text.specs.declared.utf8.Reading.TheVariants.{Units, NotUtf8, TooLong}
-use Rattle.text.specs.declared.utf8.Text.{Text}
+use Rattle.text.specs.declared.utf8.TextError.{TextError}
+use Rattle.text.specs.declared.utf8.TextError.TheVariants.{NotUtf8, TooLong}
 
 -- ---- Writing
 
@@ -42,20 +40,12 @@ Characters cs = (i : ℕ) → i < length cs → is_character (get_or cs i 0) ≡
 
 -- ---- What `units` answers
 
--- units, with zeros up to 1,024 after them
-unfoldable pub units_answer : List ℕ → Text
-units_answer us = record { reading = Units; count = length us; units = us ++ replicate (1024 - length us) 0 }
-
--- none
-unfoldable pub no_units : Reading → Text
-no_units why = record { reading = why; count = 0; units = replicate 1024 0 }
-
 -- A text of at most 1,024 octets is read exactly when it is the octets of some characters, and then as their units. It is so of at most
 -- one list of characters.
-pub record ReadsExactly (text : List ℕ) (answer : Text) : Type 0 where
-  pub too_long : 1024 < length text → answer ≡ no_units TooLong
-  pub always_then : (cs : List ℕ) → Characters cs → octets_of cs ≡ text → length text ≤ 1024 → answer ≡ units_answer (units_of cs)
-  pub only_then : length text ≤ 1024 → ((cs : List ℕ) → Characters cs → octets_of cs ≡ text → ⊥) → answer ≡ no_units NotUtf8
+pub record ReadsExactly (text : List ℕ) (answer : Result (List ℕ) TextError) : Type 0 where
+  pub too_long : 1024 < length text → answer ≡ Err TooLong
+  pub always_then : (cs : List ℕ) → Characters cs → octets_of cs ≡ text → length text ≤ 1024 → answer ≡ Ok (units_of cs)
+  pub only_then : length text ≤ 1024 → ((cs : List ℕ) → Characters cs → octets_of cs ≡ text → ⊥) → answer ≡ Err NotUtf8
   pub one_text : (cs ds : List ℕ) → Characters cs → Characters ds → octets_of cs ≡ text → octets_of ds ≡ text → cs ≡ ds
 
 -- ---- Reading one character
@@ -82,8 +72,8 @@ unfoldable pub front : List ℕ → List ℕ
 front octets = take (width (get_or octets 0 0)) octets
 
 -- the character at the front of some octets: they begin as it is written
-unfoldable pub character_in : List ℕ → Character
+unfoldable pub character_in : List ℕ → Option Character
 character_in octets =
     cond (leb (width (get_or octets 0 0)) (length octets) && (is_character (value (front octets)) && same (front octets) (utf8 (value (front octets)))))
-    (character.Number (width (get_or octets 0 0)) (value (front octets)))
-    character.Wrong
+    (Some (record { width = width (get_or octets 0 0); value = value (front octets) }))
+    None

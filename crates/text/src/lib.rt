@@ -3,5 +3,6 @@
 
 pub mod decimal;
 pub mod hex;
+pub mod units;
 pub mod utf8;
 pub mod words;

@@ -1,217 +1,131 @@
 // UTF-8 (RFC 3629) read as the units of UTF-16 (RFC 2781).
-ghost use Rattle.std.specs.Prelude.{◌≡◌, ◌+◌, ◌-◌, ◌/◌, ◌%◌, ◌≤◌, ◌<◌, length, take};
+ghost use Rattle.std.specs.Prelude.{◌≡◌, ◌+◌, ◌≤◌, ◌<◌, length};
 ghost use Rattle.text.specs.Utf8 as Spec;
 
-use tokens::checks;
+use crate::units::Units;
+use std::error::Error;
+use std::fmt;
 
-// The most octets of a text that is read, and so the most units.
-pub const MOST: usize = 1024;
-
-// What comes of a text: its units, or why there are none.
-#[derive(Clone, Copy)]
-pub enum Reading {
-    Units,
+// Why a text has no units.
+#[derive(Clone, Copy, Debug, PartialEq, Eq)]
+pub enum TextError {
     NotUtf8,
     TooLong,
 }
 
-// The units of a text: how many, and they themselves with zeros after the last. If there are none, all are zeros.
-#[derive(Clone, Copy)]
-pub struct Text {
-    pub reading: Reading,
-    pub count: usize,
-    pub units: [u16; 1024],
+impl fmt::Display for TextError {
+    fn fmt<W: fmt::Write>(&self, f: &mut fmt::Formatter<W>) -> fmt::Result {
+        f.write_str(match self {
+            TextError::NotUtf8 => "not UTF-8",
+            TextError::TooLong => "longer than 1024 octets",
+        })
+    }
 }
+
+impl Error for TextError {}
 
 // The character at the front of some octets: how many of them it takes, and its number.
-#[derive(Clone, Copy)]
-enum Character {
-    Number { width: usize, value: u32 },
-    Wrong,
-}
-
-// The octets of a character: the first `width` of four.
-#[derive(Clone, Copy)]
-struct Form {
+#[derive(Clone, Copy, Debug, PartialEq, Eq)]
+struct Character {
     width: usize,
-    octets: [u8; 4],
+    value: u32,
 }
 
-// The octets of a character.
-fn encoded(character: u32) -> Form
-    requires { character < 1114112 }
-    ensures { (result.width ≡ length (Spec.utf8 character)) × (result.width ≤ 4) × (take result.width result.octets ≡ Spec.utf8 character) }
+// Writes the octets of a character at the front of a buffer, and returns them.
+#[tactic(auto, unfolding(crate::specs::Utf8::utf8))]
+fn encoded(character: u32, buf: &mut [u8; 4]) -> &[u8]
+    requires { character < 0x110000 }
+    ensures { result.now ≡ Spec.utf8 character }
 {
-    let last = (128 + character % 64) as u8;
-    let third = (128 + character / 64 % 64) as u8;
-    let second = (128 + character / 4096 % 64) as u8;
-    if character < 128 {
-        return Form {
-            width: 1,
-            octets: [character as u8, 0, 0, 0],
-        };
-    }
-    if character < 2048 {
-        return Form {
-            width: 2,
-            octets: [(192 + character / 64) as u8, last, 0, 0],
-        };
-    }
-    if character < 65536 {
-        return Form {
-            width: 3,
-            octets: [(224 + character / 4096) as u8, third, last, 0],
-        };
-    }
-    Form {
-        width: 4,
-        octets: [(240 + character / 262144) as u8, second, third, last],
+    let last = (0x80 + character % 64) as u8;
+    let third = (0x80 + character / 64 % 64) as u8;
+    let second = (0x80 + character / 4096 % 64) as u8;
+    if character < 0x80 {
+        *buf = [character as u8, 0, 0, 0];
+        &buf[..1]
+    } else if character < 0x800 {
+        *buf = [(0xc0 + character / 64) as u8, last, 0, 0];
+        &buf[..2]
+    } else if character < 0x10000 {
+        *buf = [(0xe0 + character / 4096) as u8, third, last, 0];
+        &buf[..3]
+    } else {
+        *buf = [(0xf0 + character / 262144) as u8, second, third, last];
+        &buf[..4]
     }
 }
 
-// How many octets a character takes, by its first.
-fn width(first: u8) -> usize
-    ensures { (result ≡ Spec.width first) × (1 ≤ result) × (result ≤ 4) }
+// How many octets a character takes, and the bits of it that stand in the first, by that octet.
+#[tactic(auto, unfolding(crate::specs::Utf8::width, crate::specs::Utf8::leading_bits))]
+fn first_octet(first: u8) -> (usize, u8)
+    ensures width { result.0 ≡ Spec.width first }
+    ensures bits { result.1 ≡ Spec.leading_bits first }
+    ensures some { (1 ≤ result.0) × (result.0 ≤ 4) × (result.1 < 128) }
 {
-    if first < 128 {
-        return 1;
+    match first {
+        0..=0x7f => (1, first),
+        0x80..=0xdf => (2, first % 32),
+        0xe0..=0xef => (3, first % 16),
+        0xf0..=0xff => (4, first % 8),
     }
-    if first < 224 {
-        return 2;
-    }
-    if first < 240 {
-        return 3;
-    }
-    4
-}
-
-// The bits of a character that stand in its first octet.
-fn leading_bits(first: u8) -> u32
-    ensures { (result ≡ Spec.leading_bits first) × (result < 128) }
-{
-    if first < 128 {
-        return first as u32;
-    }
-    if first < 224 {
-        return (first % 32) as u32;
-    }
-    if first < 240 {
-        return (first % 16) as u32;
-    }
-    (first % 8) as u32
-}
-
-// The six bits of a character that stand in an octet after its first.
-fn low_bits(octet: u8) -> u32
-    ensures { (result ≡ octet % 64) × (result < 64) }
-{
-    (octet % 64) as u32
 }
 
 // The number that the octets of one character say: the bits of the first, and six of each after it.
-fn value(octets: &[u8]) -> u32
-    requires { (1 ≤ length octets.now) × (length octets.now ≤ 4) }
-    ensures { result ≡ Spec.value octets.now }
+fn value(bits: u8, after: &[u8]) -> u32
+    requires { (bits < 128) × (length after.now ≤ 3) }
+    ensures { result ≡ Spec.value_after bits after.now }
 {
-    let mut value = leading_bits(octets[0]);
-    let mut i: usize = 1;
-    while i < octets.len() {
-        value = value * 64 + low_bits(octets[i]);
-        i += 1;
+    let mut value = bits as u32;
+    for octet in after {
+        value = value * 64 + (octet % 64) as u32;
     }
     value
 }
 
 // Whether a number is a character.
+#[tactic(auto, unfolding(crate::specs::Utf8::is_character))]
 fn is_character(number: u32) -> bool
     ensures { result ≡ Spec.is_character number }
 {
-    if number < 55296 {
-        return true;
-    }
-    if number < 57344 {
-        return false;
-    }
-    number < 1114112
+    matches!(number, 0..=0xd7ff | 0xe000..=0x10ffff)
 }
 
 // The character at the front of some octets: they begin with the octets that it is written in.
-fn character_in(octets: &[u8]) -> Character
+fn character_in(octets: &[u8]) -> Option<Character>
     requires { 1 ≤ length octets.now }
     ensures { result ≡ Spec.character_in octets.now }
 {
-    let width = width(octets[0]);
+    let (width, bits) = first_octet(octets[0]);
     if octets.len() < width {
-        return Character::Wrong;
+        return None;
     }
-    let value = value(&octets[..width]);
+    let value = value(bits, &octets[1..width]);
     if !is_character(value) {
-        return Character::Wrong;
+        return None;
     }
-    let form = encoded(value);
-    let n = form.width;
-    let expected = form.octets;
-    if checks::same(&octets[..width], &expected[..n]) {
-        return Character::Number { width, value };
-    }
-    Character::Wrong
-}
-
-// The first and the second of the two units of a character above FFFF.
-fn high_unit(character: u32) -> u16
-    requires { (65536 ≤ character) × (character < 1114112) }
-    ensures { result ≡ 55296 + (character - 65536) / 1024 }
-{
-    (55296 + (character - 65536) / 1024) as u16
-}
-
-fn low_unit(character: u32) -> u16
-    requires { (65536 ≤ character) × (character < 1114112) }
-    ensures { result ≡ 56320 + (character - 65536) % 1024 }
-{
-    (56320 + (character - 65536) % 1024) as u16
-}
-
-// No units.
-fn no_units(why: Reading) -> Text
-    ensures { result ≡ Spec.no_units why }
-{
-    Text {
-        reading: why,
-        count: 0,
-        units: [0u16; 1024],
+    let mut buf = [0; 4];
+    if &octets[..width] == encoded(value, &mut buf) {
+        Some(Character { width, value })
+    } else {
+        None
     }
 }
 
 // The units of a text of at most 1,024 octets. It is read exactly when it is the octets of some characters.
-pub fn units(text: &[u8]) -> Text
-    ensures exact { Spec.ReadsExactly text.now result }
-    ensures count { result.count ≤ length result.units }
+pub fn units(text: &[u8]) -> Result<Units, TextError>
+    ensures { Spec.ReadsExactly text.now result }
 {
-    if MOST < text.len() {
-        return no_units(Reading::TooLong);
+    if Units::MOST < text.len() {
+        return Err(TextError::TooLong);
     }
-    let mut units = [0u16; 1024];
-    let mut n: usize = 0;
-    let mut i: usize = 0;
-    while i < text.len() {
-        let found = character_in(&text[i..]);
-        let Character::Number { width, value } = found else {
-            return no_units(Reading::NotUtf8);
+    let mut units = Units::new();
+    let mut ahead = text;
+    while !ahead.is_empty() {
+        let Some(found) = character_in(ahead) else {
+            return Err(TextError::NotUtf8);
         };
-        if value < 65536 {
-            units[n] = value as u16;
-            n += 1;
-        } else {
-            units[n] = high_unit(value);
-            units[n + 1] = low_unit(value);
-            n += 2;
-        }
-        i += width;
+        units.push(found.value);
+        ahead = ahead.split_at(found.width).1;
     }
-    Text {
-        reading: Reading::Units,
-        count: n,
-        units: units,
-    }
+    Ok(units)
 }

@@ -1,13 +1,12 @@
 // The words of the command line that stand for a choice.
-ghost use Rattle.std.specs.Prelude.{◌≡◌};
+ghost use Rattle.std.specs.Prelude.{◌≡◌, map};
 ghost use Rattle.text.specs.Words as Spec;
 
-use tokens::checks;
 use tokens::context::Sender;
 use tokens::strength::Strength;
 
 // What the program is asked to do.
-#[derive(Clone, Copy)]
+#[derive(Clone, Copy, Debug, PartialEq, Eq)]
 pub enum Verb {
     Key,
     Open,
@@ -19,117 +18,76 @@ pub enum Verb {
     Checksum,
     Bill,
     Help,
-    Unknown,
 }
 
-// A strength, or that a word is none.
-#[derive(Clone, Copy)]
-pub enum StrengthWord {
-    Is(Strength),
-    Wrong,
-}
-
-// A sender, or that a word is none.
-#[derive(Clone, Copy)]
-pub enum SenderWord {
-    Is(Sender),
-    Wrong,
-}
-
-// Sealed or not, or that a word is neither.
-#[derive(Clone, Copy)]
-pub enum SealingWord {
-    Is(bool),
-    Wrong,
-}
-
-// The verbs that write or read one token or message.
-fn token_verb(word: &[u8]) -> Verb
-    ensures { result ≡ Spec.token_verb word.now }
+// The choice whose word is the given one.
+fn choice<T: Copy>(word: &[u8], choices: &[(&str, T)]) -> Option<T>
+    ensures { result ≡ Spec.chosen word.now (map (λ c. (c.0.now, c.1)) choices.now) }
 {
-    if checks::same(word, b"open") {
-        return Verb::Open;
+    for (name, choice) in choices {
+        if word == name.as_bytes() {
+            return Some(*choice);
+        }
     }
-    if checks::same(word, b"wrap") {
-        return Verb::Wrap;
-    }
-    if checks::same(word, b"verify") {
-        return Verb::Verify;
-    }
-    if checks::same(word, b"mic") {
-        return Verb::Mic;
-    }
-    if checks::same(word, b"decrypt") {
-        return Verb::Decrypt;
-    }
-    if checks::same(word, b"encrypt") {
-        return Verb::Encrypt;
-    }
-    Verb::Unknown
+    None
 }
 
-pub fn verb_of(word: &[u8]) -> Verb
+pub fn verb_of(word: &[u8]) -> Option<Verb>
     ensures { result ≡ Spec.verb_of word.now }
 {
-    if checks::same(word, b"key") {
-        return Verb::Key;
-    }
-    if checks::same(word, b"checksum") {
-        return Verb::Checksum;
-    }
-    if checks::same(word, b"bill") {
-        return Verb::Bill;
-    }
-    if checks::same(word, b"help") {
-        return Verb::Help;
-    }
-    token_verb(word)
+    choice(
+        word,
+        &[
+            ("key", Verb::Key),
+            ("checksum", Verb::Checksum),
+            ("bill", Verb::Bill),
+            ("help", Verb::Help),
+            ("open", Verb::Open),
+            ("wrap", Verb::Wrap),
+            ("verify", Verb::Verify),
+            ("mic", Verb::Mic),
+            ("decrypt", Verb::Decrypt),
+            ("encrypt", Verb::Encrypt),
+        ],
+    )
 }
 
-pub fn strength_of(word: &[u8]) -> StrengthWord
+pub fn strength_of(word: &[u8]) -> Option<Strength>
     ensures { result ≡ Spec.strength_of word.now }
 {
-    if checks::same(word, b"full") {
-        return StrengthWord::Is(Strength::Full);
-    }
-    if checks::same(word, b"export") {
-        return StrengthWord::Is(Strength::Export);
-    }
-    StrengthWord::Wrong
+    choice(
+        word,
+        &[("full", Strength::Full), ("export", Strength::Export)],
+    )
 }
 
-pub fn sender_of(word: &[u8]) -> SenderWord
+pub fn sender_of(word: &[u8]) -> Option<Sender>
     ensures { result ≡ Spec.sender_of word.now }
 {
-    if checks::same(word, b"initiator") {
-        return SenderWord::Is(Sender::Initiator);
-    }
-    if checks::same(word, b"acceptor") {
-        return SenderWord::Is(Sender::Acceptor);
-    }
-    SenderWord::Wrong
+    choice(
+        word,
+        &[
+            ("initiator", Sender::Initiator),
+            ("acceptor", Sender::Acceptor),
+        ],
+    )
 }
 
-pub fn sealing_of(word: &[u8]) -> SealingWord
+// Whether a message is to be sealed.
+pub fn sealing_of(word: &[u8]) -> Option<bool>
     ensures { result ≡ Spec.sealing_of word.now }
 {
-    if checks::same(word, b"sealed") {
-        return SealingWord::Is(true);
-    }
-    if checks::same(word, b"clear") {
-        return SealingWord::Is(false);
-    }
-    SealingWord::Wrong
+    choice(word, &[("sealed", true), ("clear", false)])
 }
 
 pub fn is_framed(word: &[u8]) -> bool
     ensures { result ≡ Spec.is_framed word.now }
 {
-    checks::same(word, b"framed")
+    word == b"framed".as_slice()
 }
 
 pub fn is_sealed_only(word: &[u8]) -> bool
     ensures { result ≡ Spec.is_sealed_only word.now }
 {
-    checks::same(word, b"sealed-only")
+    word == b"sealed-only".as_slice()
 }

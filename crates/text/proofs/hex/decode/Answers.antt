@@ -1,48 +1,37 @@
--- The text is digits, two for each octet of `out`, and what is ahead of it says the octets after those that were read.
-use mathlib.Core.Path.{sym, ◌∙◌}
-use Prim.Native.Nat.{◌+◌, ◌*◌}
-use native.Mathlib.Omega.{arith}
-use borrow.Author.Rules.{rules}
-use Rattle.text.proofs.Digits.{digit_at, read_more, read_all, other_length, other_text, spelled}
+-- The first i octets are read, and the text ahead says the others.
+use Rattle.std.proofs.Common.{◌≡◌, ◌*◌, ◌∙◌, arith, length, length-set}
+use Rattle.text.proofs.Digits.{not_digits, more_digits, read_more, other_length, other_text, spelled}
 use Rattle.text.proofs.hex.decode.Goals as goal
+use Rattle.text.proofs.hex.decode.Goals.{then-text-ne0-via-then-text-ne0, then-text-ne0-via-else-text-ne0+then-text}
 
 pub returns-then-text-ne0 : goal.returns-then-text-ne0
-returns-then-text-ne0 c =
-    let all = other_length c.args.text.now c.args.out.now (λ e. omega arith) in
-    record { answer = all.0; octets = all.1 }
+returns-then-text-ne0 g c =
+    other_length c.args.text.now g.row.N (λ e. elim c.then-text-ne0.branch [
+      | then-text-ne0-via-then-text-ne0 w ↦ omega (arith, w.if-text-ne0.true)
+      | then-text-ne0-via-else-text-ne0+then-text w ↦ omega (arith, w.if-text.true)
+    ])
 
-pub returns-then-text-out : goal.returns-then-text-out
-returns-then-text-out c =
-    let all = other_length c.args.text.now c.args.out.now (λ e. omega arith) in
-    record { answer = all.0; octets = all.1 }
-
-pub returns-then-not-are_digits : goal.returns-then-not-are_digits
-returns-then-not-are_digits c =
-    let all = other_text c.args.text.now c.args.out.now (omega arith) (sym c.are_digits.ensures ∙ c.if-not-are_digits.true) in
-    record { answer = all.0; octets = all.1 }
-
-pub overflow_mul-out : goal.overflow_mul-out
-overflow_mul-out c =
+pub returns-in_err-octet : goal.returns-in_err-octet
+returns-in_err-octet g c =
     let l = c.loop-i in
-    omega (arith, digit_at _ (2 * l.i) l.invariant.3 (omega arith))
-
-pub overflow_add-out : goal.overflow_add-out
-overflow_add-out c =
-    let l = c.loop-i in
-    omega (arith, digit_at _ (2 * l.i) l.invariant.3 (omega arith), digit_at _ (2 * l.i + 1) l.invariant.3 (omega arith))
+    let text = c.args.text.now in
+    let size : length text ≡ 2 * g.row.N = omega arith in
+    let wrong = not_digits text l.i (omega arith) c.in_err-octet.ensures in
+    c.from_residual.ensures ∙ other_text text g.row.N size (l.invariant.digits ∙ wrong)
 
 pub loop-i-preserved : goal.loop-i-preserved
-loop-i-preserved c =
-    let l = c.loop-i in (
-      omega arith,
-      search rules,
-      l.invariant.2,
-      l.invariant.3,
-      read_more _ l.out l.i l.invariant.4 (omega arith) (omega arith) c.value.ensures.0 c.value-in-loop-i.ensures.0,
-    )
+loop-i-preserved g c =
+    let l = c.loop-i in
+    let text = c.args.text.now in
+    record {
+      size = length-set l.octet-items l.i _ ∙ l.invariant.size;
+      digits = l.invariant.digits ∙ more_digits text l.i (omega arith) c.in_ok-octet.ensures;
+      said = read_more text l.i (omega arith) c.in_ok-octet.ensures l.octet-items (omega arith) l.invariant.said;
+    }
 
 pub returns : goal.returns
-returns c =
+returns g c =
     let l = c.loop-i in
-    let all = spelled c.args.text.now c.args.out.now l.invariant.2 l.invariant.3 (read_all _ l.out l.i l.invariant.4 (omega arith) (omega arith)) in
-    record { answer = all.0; octets = all.1 }
+    let text = c.args.text.now in
+    let all : l.i ≡ g.row.N = omega arith in
+    spelled text g.row.N l.octet-items l.invariant.size (omega arith) (rw all at l.invariant.digits) (rw all at l.invariant.said)

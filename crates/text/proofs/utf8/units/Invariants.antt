@@ -1,11 +1,10 @@
--- The octets before i were read. Each way out has its law in `proofs/Texts.antt`.
-use Prim.Native.Nat.{◌-◌}
-use lib.ListN.{length}
-use Rattle.text.proofs.Texts as Law
+-- The octets before those ahead were read. Each way out has its law in `proofs/Texts.antt`.
+use Rattle.std.proofs.Common.{length}
+use Rattle.text.proofs.Texts.{Reads}
 use Rattle.text.proofs.utf8.units.Given as goal
 
-abbrev pub invariant-loop-i : goal.invariant-loop-i
-invariant-loop-i l = Law.Reads l.text l.units l.n l.i
+abbrev pub invariant-loop-ahead : goal.invariant-loop-ahead
+invariant-loop-ahead l = Reads l.text l.units l.ahead
 
-abbrev pub decreases-loop-i : goal.decreases-loop-i
-decreases-loop-i l = length l.text - l.i
+abbrev pub decreases-loop-ahead : goal.decreases-loop-ahead
+decreases-loop-ahead l = length l.ahead

@@ -1,18 +1,7 @@
--- The two words in turn.
-use mathlib.Core.Path.{sym, ◌∙◌}
-use Rattle.text.specs.Words.{ascii, sealing_of}
+-- By the table.
+use Rattle.text.specs.Words.{ascii, chosen, sealing_of}
 use Rattle.text.proofs.words.sealing_of.Goals as goal
 
-pub returns-then-same : goal.returns-then-same
-unfolding ascii sealing_of
-returns-then-same c = rw (sym c.same.ensures ∙ c.if-same.true)
-
-pub returns-then-same-2 : goal.returns-then-same-2
-unfolding ascii sealing_of
-returns-then-same-2 c =
-    rw (sym c.same.ensures ∙ c.if-same.false, sym c.same-2.ensures ∙ c.if-same-2.true)
-
 pub returns : goal.returns
-unfolding ascii sealing_of
-returns c =
-    rw (sym c.same.ensures ∙ c.if-same.false, sym c.same-2.ensures ∙ c.if-same-2.false)
+unfolding ascii chosen sealing_of
+returns c = c.choice.ensures

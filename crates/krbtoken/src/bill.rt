@@ -7,8 +7,8 @@ ghost use Rattle.tokens.specs.Wrap.{unwrapped_answer};
 
 use crate::arguments::Arguments;
 use crate::failure::{Failure, WrongUse};
-use crate::output::Refused;
-use crate::{answers, input};
+use crate::input;
+use crate::output::{Refused, StatusWords};
 use billing::receive;
 use billing::window::Window;
 use frame::capture;
@@ -103,9 +103,9 @@ impl Billing {
         let answer = receive::receive_framed_wrap(self.window, context, buf, at, n);
         self.window = answer.received.window;
         let place = self.place;
-        match answers::unwrapped(answer.token) {
+        match answer.token {
             Ok(opened) => {
-                let status = answers::StatusWords(answer.received.status);
+                let status = StatusWords(answer.received.status);
                 let clear = if opened.sealed { "" } else { " clear" };
                 println!(rt;
                     "at {place} sequence {}{status} length {}{clear}",

@@ -1,8 +1,6 @@
 // Tokens in the two forms that the library has: as they are, or in the frame that they travel in.
-use crate::answers;
-use crate::answers::Opened;
 use frame::{mic as framed_mic, wrap as framed_wrap};
-use tokens::answer::Refusal;
+use tokens::answer::{Refusal, Unwrapped};
 use tokens::context::Context;
 use tokens::{mic, wrap};
 
@@ -23,7 +21,7 @@ pub trait Form {
     fn wrap_write(parts: Parts, buf: &mut [u8], start: usize, n: usize) -> Result<usize, Refusal>;
 
     // Opens the Wrap token of n octets at the front of a buffer.
-    fn wrap_open(context: Context, buf: &mut [u8], n: usize) -> Result<Opened, Refusal>;
+    fn wrap_open(context: Context, buf: &mut [u8], n: usize) -> Result<Unwrapped, Refusal>;
 
     // Writes the MIC token over some data at the front of a buffer, and returns how long it is.
     fn mic_write(
@@ -47,7 +45,7 @@ impl Form for Bare {
     }
 
     fn wrap_write(parts: Parts, buf: &mut [u8], start: usize, n: usize) -> Result<usize, Refusal> {
-        answers::extent(wrap::wrap_write(
+        wrap::wrap_write(
             parts.context,
             parts.sequence,
             parts.confounder,
@@ -55,11 +53,11 @@ impl Form for Bare {
             buf,
             start,
             n,
-        ))
+        )
     }
 
-    fn wrap_open(context: Context, buf: &mut [u8], n: usize) -> Result<Opened, Refusal> {
-        answers::unwrapped(wrap::wrap_open(context, buf, 0, n))
+    fn wrap_open(context: Context, buf: &mut [u8], n: usize) -> Result<Unwrapped, Refusal> {
+        wrap::wrap_open(context, buf, 0, n)
     }
 
     fn mic_write(
@@ -68,21 +66,21 @@ impl Form for Bare {
         data: &[u8],
         buf: &mut [u8],
     ) -> Result<usize, Refusal> {
-        answers::extent(mic::mic_write(context, sequence, data, buf, 0))
+        mic::mic_write(context, sequence, data, buf, 0)
     }
 
     fn mic_read(context: Context, data: &[u8], token: &[u8]) -> Result<u32, Refusal> {
-        answers::sequence(mic::mic_read(context, data, token, 0, token.len()))
+        mic::mic_read(context, data, token, 0, token.len())
     }
 }
 
 impl Form for Framed {
     fn wrap_lead(n: usize) -> Result<usize, Refusal> {
-        answers::extent(framed_wrap::framed_wrap_lead(n))
+        framed_wrap::framed_wrap_lead(n)
     }
 
     fn wrap_write(parts: Parts, buf: &mut [u8], start: usize, n: usize) -> Result<usize, Refusal> {
-        answers::extent(framed_wrap::framed_wrap_write(
+        framed_wrap::framed_wrap_write(
             parts.context,
             parts.sequence,
             parts.confounder,
@@ -90,11 +88,11 @@ impl Form for Framed {
             buf,
             start,
             n,
-        ))
+        )
     }
 
-    fn wrap_open(context: Context, buf: &mut [u8], n: usize) -> Result<Opened, Refusal> {
-        answers::unwrapped(framed_wrap::framed_wrap_open(context, buf, 0, n))
+    fn wrap_open(context: Context, buf: &mut [u8], n: usize) -> Result<Unwrapped, Refusal> {
+        framed_wrap::framed_wrap_open(context, buf, 0, n)
     }
 
     fn mic_write(
@@ -103,10 +101,10 @@ impl Form for Framed {
         data: &[u8],
         buf: &mut [u8],
     ) -> Result<usize, Refusal> {
-        answers::extent(framed_mic::framed_mic_write(context, sequence, data, buf, 0))
+        framed_mic::framed_mic_write(context, sequence, data, buf, 0)
     }
 
     fn mic_read(context: Context, data: &[u8], token: &[u8]) -> Result<u32, Refusal> {
-        answers::sequence(framed_mic::framed_mic_read(context, data, token, 0, token.len()))
+        framed_mic::framed_mic_read(context, data, token, 0, token.len())
     }
 }

@@ -1,7 +1,7 @@
 // The verbs that print sixteen octets: the key of a password, and the keyed checksum.
 use crate::arguments::Arguments;
 use crate::failure::{Failure, WrongUse};
-use crate::{answers, input, output};
+use crate::{input, output};
 use text::utf8;
 use text::utf8::TextError;
 use tokens::{checksum, key};
@@ -23,7 +23,7 @@ pub fn key(rt: HostRuntime) -> Result<(), Failure> {
     let mut buf = [0; PASSWORD_BUFFER];
     let n = input::read(&mut rt.stdin(), &mut buf, TOO_LONG, input::UNREADABLE)?;
     let units = utf8::units(input::without_newline(&buf[..n])).map_err(wrong_password)?;
-    let key = answers::digest(key::password_key(units.as_slice()))?;
+    let key = key::password_key(units.as_slice())?;
     output::digits(rt, &key)
 }
 
@@ -33,6 +33,6 @@ pub fn checksum(arguments: &mut Arguments) -> Result<(), Failure> {
     let rt = arguments.rt;
     let mut data = [0; input::BUFFER];
     let n = input::standard(rt, &mut data)?;
-    let checksum = answers::digest(checksum::checksum(key, usage, &data[..n]))?;
+    let checksum = checksum::checksum(key, usage, &data[..n])?;
     output::digits(rt, &checksum)
 }

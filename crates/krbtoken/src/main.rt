@@ -1,7 +1,6 @@
 // The library on the command line: keys, checksums, encrypted messages and tokens, one at a time, and a capture of tokens billed.
 #![tactic(auto)]
 
-mod answers;
 mod arguments;
 mod bill;
 mod failure;

@@ -1,7 +1,7 @@
 // The verbs of encrypted messages: RFC 4757, section 5.
 use crate::arguments::Arguments;
 use crate::failure::Failure;
-use crate::{answers, input, output};
+use crate::{input, output};
 use tokens::message;
 
 // Octets before the message, and what input::read may fill.
@@ -16,9 +16,7 @@ pub fn encrypt(arguments: &mut Arguments) -> Result<(), Failure> {
     let rt = arguments.rt;
     let mut buf = [0; BUFFER];
     let n = input::standard(rt, &mut buf[message::OVERHEAD..])?;
-    let total = answers::extent(message::encrypt(
-        key, strength, usage, confounder, &mut buf, 0, n,
-    ))?;
+    let total = message::encrypt(key, strength, usage, confounder, &mut buf, 0, n)?;
     output::region(rt, &buf, 0, total)
 }
 
@@ -30,7 +28,7 @@ pub fn decrypt(arguments: &mut Arguments) -> Result<(), Failure> {
     let rt = arguments.rt;
     let mut buf = [0; input::BUFFER];
     let n = input::standard(rt, &mut buf)?;
-    let length = answers::extent(message::decrypt(key, strength, usage, &mut buf, 0, n))?;
+    let length = message::decrypt(key, strength, usage, &mut buf, 0, n)?;
     println!(rt; "length {length}")?;
     output::named_digits(rt, "data", &buf, message::OVERHEAD, length)
 }

@@ -1,7 +1,7 @@
 // What is written on standard output: results and refusals. std puts a line together and writes it at once. The status of the run goes to
 // a descriptor of its own.
-use crate::answers::Words;
 use crate::failure::Failure;
+use billing::status::Status;
 use std::fmt;
 use std::fs::File;
 use std::io::Write;
@@ -29,7 +29,20 @@ pub struct Refused(pub Refusal);
 
 impl fmt::Display for Refused {
     fn fmt<W: fmt::Write>(&self, f: &mut fmt::Formatter<W>) -> fmt::Result {
-        write!(f, "refused {}: {}", self.0.number(), Words(self.0))
+        write!(f, "refused {}: {}", self.0.number(), self.0)
+    }
+}
+
+// The status of a token that opened, after a blank.
+#[derive(Clone, Copy)]
+pub struct StatusWords(pub Option<Status>);
+
+impl fmt::Display for StatusWords {
+    fn fmt<W: fmt::Write>(&self, f: &mut fmt::Formatter<W>) -> fmt::Result {
+        match self.0 {
+            Some(status) => write!(f, " {status}"),
+            None => Ok(()),
+        }
     }
 }
 

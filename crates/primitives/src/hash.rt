@@ -25,10 +25,10 @@ pub struct Words {
 // how many octets it has, modulo 2^64.
 #[derive(Clone, Copy)]
 pub struct Hash {
-    pub algorithm: Algorithm,
-    pub words: Words,
     pub block: [u8; 64],
+    pub words: Words,
     pub count: u64,
+    pub algorithm: Algorithm,
 }
 
 // Section 3.3: the words before the first block.
@@ -142,20 +142,30 @@ impl Hash {
     fn update_blocks(self, part: &[u8]) -> Self
         ensures { result ≡ Spec.absorb self part.now }
     {
-        let mut hash = self;
+        let Hash {
+            mut block,
+            mut words,
+            mut count,
+            algorithm,
+        } = self;
         let mut rest = part;
         while !rest.is_empty() {
-            let at = (hash.count % 64) as usize;
+            let at = (count % 64) as usize;
             let (octets, after) = rest.split_at(rest.len().min(64 - at));
-            hash.block = fill(hash.block, at, octets);
+            block = fill(block, at, octets);
             let full = at + octets.len() == 64;
             if full {
-                hash.words = compress(hash.algorithm, hash.words, &hash.block);
+                words = compress(algorithm, words, &block);
             }
-            hash.count = hash.count.wrapping_add(octets.len() as u64);
+            count = count.wrapping_add(octets.len() as u64);
             rest = after;
         }
-        hash
+        Hash {
+            block,
+            words,
+            count,
+            algorithm,
+        }
     }
 
     // The digest of what has been absorbed: the padding, and then the words' octets.

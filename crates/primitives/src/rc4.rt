@@ -28,14 +28,13 @@ fn key_schedule(key: &[u8]) -> Rc4
     ensures { result ≡ Spec.key_schedule key.now }
 {
     let mut s = up_to_256();
-    let mut j: u8 = 0;
+    let mut j: usize = 0;
     let mut k: usize = 0;
     for i in 0..256 {
         let a = s[i];
-        j = j.wrapping_add(a).wrapping_add(key[k]);
-        let q = usize::from(j);
-        s[i] = s[q];
-        s[q] = a;
+        j = (j + usize::from(a) + usize::from(key[k])) % 256;
+        s[i] = s[j];
+        s[j] = a;
         k += 1;
         if k == key.len() {
             k = 0;

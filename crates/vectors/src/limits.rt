@@ -46,13 +46,13 @@ fn write_rc4(rt: &impl Print, octets: &mut [u8])
     requires { 1 ≤ length octets.old }
 {
     let status = text::status(&whole::rc4(b"key", octets));
-    let n = octets.len();
-    if let Some((last, before)) = octets.split_last() {
-        let _ = println!(rt;
-            "rc4 of {n}: {status} {last:02x} md5: {}",
-            Digest(whole::md5(before))
-        );
-    }
+    let last = octets.len() - 1;
+    let _ = println!(rt;
+        "rc4 of {}: {status} {:02x} md5: {}",
+        octets.len(),
+        octets[last],
+        Digest(whole::md5(&octets[..last]))
+    );
 }
 
 pub fn run(rt: &impl Print) {

@@ -1,66 +1,105 @@
-// The answers of the calls: the number of the refusal, the values, zeros with a refusal, and whether the buffer is as it was.
-use crate::{text, words};
-use tokens::answer::{Digest, Extent, Sequence, Status, Unwrapped};
-use tokens::checks;
+// How the answers of the calls are written. That a line could not be written is left to the comparison with the file `stdout`.
+use crate::words;
+use std::fmt;
+use std::fmt::Display;
+use tokens::answer::{Refusal, Unwrapped};
 
-pub fn write_status(rt: &impl Print, status: Status) {
-    match status {
-        Status::Done => text::write_decimal(rt, 0),
-        Status::Refused(refusal) => text::write_decimal(rt, refusal.number() as usize),
+// Octets in hexadecimal.
+#[derive(Clone, Copy)]
+pub struct Hex<'a>(pub &'a [u8]);
+
+impl Display for Hex<'_> {
+    fn fmt<W: fmt::Write>(&self, f: &mut fmt::Formatter<W>) -> fmt::Result {
+        for octet in self.0 {
+            write!(f, "{octet:02x}")?;
+        }
+        Ok(())
     }
 }
 
-pub fn write_digest(rt: &impl Print, answer: Digest) {
-    let status = answer.status;
-    let octets = answer.octets;
-    write_status(rt, status);
-    text::write(rt, b" ");
-    text::write_hex(rt, &octets);
+// Sixteen octets.
+#[derive(Clone, Copy, Default)]
+pub struct Digest(pub [u8; 16]);
+
+impl Display for Digest {
+    fn fmt<W: fmt::Write>(&self, f: &mut fmt::Formatter<W>) -> fmt::Result {
+        write!(f, "{}", Hex(&self.0))
+    }
 }
 
-// The number of a refusal, or 0, and a value.
-fn write_value(rt: &impl Print, refusal: u32, value: usize) {
-    text::write_decimal(rt, refusal as usize);
-    text::write_next(rt, value);
+// What an opened Wrap token holds.
+#[derive(Clone, Copy)]
+pub struct Opened(pub Unwrapped);
+
+impl Default for Opened {
+    fn default() -> Self {
+        Opened(Unwrapped {
+            sequence: 0,
+            sealed: false,
+            length: 0,
+        })
+    }
 }
 
-pub fn write_extent(rt: &impl Print, answer: Extent) {
+impl Display for Opened {
+    fn fmt<W: fmt::Write>(&self, f: &mut fmt::Formatter<W>) -> fmt::Result {
+        let Unwrapped {
+            sequence,
+            sealed,
+            length,
+        } = self.0;
+        write!(f, "{sequence} {} {length}", words::seal(sealed))
+    }
+}
+
+// The number of a refusal, or 0.
+pub fn number<T>(answer: &Result<T, Refusal>) -> u32 {
     match answer {
-        Extent::Octets(n) => write_value(rt, 0, n),
-        Extent::Refused(refusal) => write_value(rt, refusal.number(), 0),
+        Ok(_) => 0,
+        Err(refusal) => refusal.number(),
     }
 }
 
-pub fn write_sequence(rt: &impl Print, answer: Sequence) {
-    match answer {
-        Sequence::Number(n) => write_value(rt, 0, n as usize),
-        Sequence::Refused(refusal) => write_value(rt, refusal.number(), 0),
+// The number of a refusal, or 0, and what the call gives. A refused call has zeros for it.
+#[derive(Clone, Copy)]
+pub struct Answer<T>(pub Result<T, Refusal>);
+
+impl<T: Copy + Default + Display> Display for Answer<T> {
+    fn fmt<W: fmt::Write>(&self, f: &mut fmt::Formatter<W>) -> fmt::Result {
+        write!(f, "{} {}", number(&self.0), self.0.unwrap_or_default())
     }
 }
 
-// The number of a refusal, or 0, and what a Wrap token holds.
-fn write_parts(rt: &impl Print, refusal: u32, sequence: u32, sealed: bool, length: usize) {
-    write_value(rt, refusal, sequence as usize);
-    words::write_seal(rt, sealed);
-    text::write_next(rt, length);
+// The answer of a call on a buffer, and whether it left the buffer as it was.
+#[derive(Clone, Copy)]
+pub struct OnBuffer<T> {
+    answer: Answer<T>,
+    unchanged: bool,
 }
 
-pub fn write_unwrapped(rt: &impl Print, answer: Unwrapped) {
-    match answer {
-        Unwrapped::Message {
-            sequence: n,
-            sealed: sealed,
-            length: length,
-        } => write_parts(rt, 0, n, sealed, length),
-        Unwrapped::Refused(refusal) => write_parts(rt, refusal.number(), 0, false, 0),
+impl<T: Copy> OnBuffer<T> {
+    pub fn of<const N: usize, F: FnOnce(&mut [u8]) -> Result<T, Refusal>>(
+        before: [u8; N],
+        call: F,
+    ) -> OnBuffer<T>
+        requires { F.IsAlwaysCallable call }
+    {
+        let mut buf = before;
+        let answer = Answer(call(&mut buf));
+        OnBuffer {
+            answer,
+            unchanged: buf == before,
+        }
     }
 }
 
-// Whether a buffer is as it was, and the end of the line.
-pub fn write_buffer(rt: &impl Print, before: &[u8], after: &[u8]) {
-    if checks::same(before, after) {
-        text::write(rt, b" unchanged\n");
-    } else {
-        text::write(rt, b" changed\n");
+impl<T: Copy + Default + Display> Display for OnBuffer<T> {
+    fn fmt<W: fmt::Write>(&self, f: &mut fmt::Formatter<W>) -> fmt::Result {
+        let state = if self.unchanged {
+            "unchanged"
+        } else {
+            "changed"
+        };
+        write!(f, "{} {state}", self.answer)
     }
 }

@@ -6,7 +6,6 @@ mod answers;
 mod messages;
 mod mic_tokens;
 mod samples;
-mod text;
 mod words;
 mod wrap_tokens;
 

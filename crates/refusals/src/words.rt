@@ -1,26 +1,21 @@
-// The words of a strength, a sender and a seal, each after a space.
-use crate::text;
+// The words of a strength, a sender and a seal.
 use tokens::context::Sender;
 use tokens::strength::Strength;
 
-pub fn write_strength(rt: &impl Print, strength: Strength) {
+pub fn strength(strength: Strength) -> &'static str {
     match strength {
-        Strength::Full => text::write(rt, b" full"),
-        Strength::Export => text::write(rt, b" export"),
+        Strength::Full => "full",
+        Strength::Export => "export",
     }
 }
 
-pub fn write_sender(rt: &impl Print, sender: Sender) {
+pub fn sender(sender: Sender) -> &'static str {
     match sender {
-        Sender::Initiator => text::write(rt, b" initiator"),
-        Sender::Acceptor => text::write(rt, b" acceptor"),
+        Sender::Initiator => "initiator",
+        Sender::Acceptor => "acceptor",
     }
 }
 
-pub fn write_seal(rt: &impl Print, sealed: bool) {
-    if sealed {
-        text::write(rt, b" sealed");
-    } else {
-        text::write(rt, b" clear");
-    }
+pub fn seal(sealed: bool) -> &'static str {
+    if sealed { "sealed" } else { "clear" }
 }

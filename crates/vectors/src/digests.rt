@@ -1,46 +1,48 @@
 // The test suites of RFC 1320 (A.5), RFC 1321 (A.5) and RFC 2104 (appendix).
-use crate::text;
-use primitives::hash::Algorithm;
+use crate::text::Digest;
+use primitives::limits::LengthError;
 use primitives::whole;
 
-// A test of A.5: of RFC 1320 for MD4, of RFC 1321 for MD5.
-fn write_test(rt: &impl Print, algorithm: Algorithm, number: usize, message: &[u8]) {
-    match algorithm {
-        Algorithm::Md4 => text::write_digest(rt, b"RFC 1320 A.5 ", number, whole::md4(message)),
-        Algorithm::Md5 => text::write_digest(rt, b"RFC 1321 A.5 ", number, whole::md5(message)),
+// The messages of A.5, which are the same in both documents.
+const MESSAGES: [&str; 7] = [
+    "",
+    "a",
+    "abc",
+    "message digest",
+    "abcdefghijklmnopqrstuvwxyz",
+    "ABCDEFGHIJKLMNOPQRSTUVWXYZabcdefghijklmnopqrstuvwxyz0123456789",
+    "12345678901234567890123456789012345678901234567890123456789012345678901234567890",
+];
+
+// The tests of A.5 of a document.
+fn write_suite<F: Fn(&[u8]) -> Result<[u8; 16], LengthError>>(
+    rt: &impl Print,
+    document: &str,
+    digest: F,
+)
+    requires { F.IsAlwaysCallable digest }
+{
+    for (i, message) in MESSAGES.iter().enumerate() {
+        let answer = digest(message.as_bytes());
+        let _ = println!(rt; "{document} A.5 {}: {}", i + 1, Digest(answer));
     }
 }
 
-// The tests of A.5, which has the same messages in both documents.
-fn write_suite(rt: &impl Print, algorithm: Algorithm) {
-    write_test(rt, algorithm, 1, b"");
-    write_test(rt, algorithm, 2, b"a");
-    write_test(rt, algorithm, 3, b"abc");
-    write_test(rt, algorithm, 4, b"message digest");
-    write_test(rt, algorithm, 5, b"abcdefghijklmnopqrstuvwxyz");
-    write_test(
-        rt,
-        algorithm,
-        6,
-        b"ABCDEFGHIJKLMNOPQRSTUVWXYZabcdefghijklmnopqrstuvwxyz0123456789",
-    );
-    write_test(
-        rt,
-        algorithm,
-        7,
-        b"12345678901234567890123456789012345678901234567890123456789012345678901234567890",
-    );
-}
-
-// A test of the appendix of RFC 2104.
-fn write_hmac(rt: &impl Print, number: usize, key: &[u8], message: &[u8]) {
-    text::write_digest(rt, b"RFC 2104 ", number, whole::hmac_md5(key, message));
+// The tests of RFC 2104: a key and a message.
+fn write_codes(rt: &impl Print) {
+    let cases: [(&[u8], &[u8]); 3] = [
+        (&[0x0b; 16], b"Hi There"),
+        (b"Jefe", b"what do ya want for nothing?"),
+        (&[0xaa; 16], &[0xdd; 50]),
+    ];
+    for (i, (key, message)) in cases.iter().enumerate() {
+        let answer = whole::hmac_md5(key, message);
+        let _ = println!(rt; "RFC 2104 {}: {}", i + 1, Digest(answer));
+    }
 }
 
 pub fn run(rt: &impl Print) {
-    write_suite(rt, Algorithm::Md4);
-    write_suite(rt, Algorithm::Md5);
-    write_hmac(rt, 1, &[0x0bu8; 16], b"Hi There");
-    write_hmac(rt, 2, b"Jefe", b"what do ya want for nothing?");
-    write_hmac(rt, 3, &[0xaau8; 16], &[0xddu8; 50]);
+    write_suite(rt, "RFC 1320", whole::md4);
+    write_suite(rt, "RFC 1321", whole::md5);
+    write_codes(rt);
 }

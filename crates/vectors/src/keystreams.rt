@@ -1,7 +1,8 @@
 // The keystreams of RFC 6229: RC4 over zeros, at eighteen offsets under each of its fourteen keys.
-ghost use Rattle.std.specs.Prelude.{◌+◌, ◌≤◌, length};
+ghost use Rattle.std.specs.Prelude.{◌≤◌};
 
 use crate::text;
+use crate::text::Hex;
 use primitives::whole;
 
 // The first key of each length is the beginning of these octets, 1 to 32.
@@ -12,68 +13,26 @@ const COUNTING: [u8; 32] =
 const DIGEST: [u8; 32] =
     *b"\x1a\xda\x31\xd5\xcf\x68\x82\x21\xc1\x09\x16\x39\x08\xeb\xe5\x1d\xeb\xb4\x62\x27\xc6\xcc\x8b\x37\x64\x19\x10\x83\x32\x22\x77\x2a";
 
-// The sixteen octets of the keystream at an offset.
-fn write_at(rt: &impl Print, stream: &[u8], offset: usize)
-    requires { offset + 16 ≤ length stream.now }
-{
-    let end = offset + 16;
-    text::write_decimal(rt, offset);
-    text::write(rt, b": ");
-    text::write_hex(rt, &stream[offset..end]);
-    text::end_line(rt);
-}
+// The lengths of the keys.
+const KEY_LENGTHS: [usize; 7] = [5, 7, 8, 10, 16, 24, 32];
 
-fn write_offsets(rt: &impl Print, stream: &[u8])
-    requires { 4112 ≤ length stream.now }
-{
-    write_at(rt, stream, 0);
-    write_at(rt, stream, 16);
-    write_at(rt, stream, 240);
-    write_at(rt, stream, 256);
-    write_at(rt, stream, 496);
-    write_at(rt, stream, 512);
-    write_at(rt, stream, 752);
-    write_at(rt, stream, 768);
-    write_at(rt, stream, 1008);
-    write_at(rt, stream, 1024);
-    write_at(rt, stream, 1520);
-    write_at(rt, stream, 1536);
-    write_at(rt, stream, 2032);
-    write_at(rt, stream, 2048);
-    write_at(rt, stream, 3056);
-    write_at(rt, stream, 3072);
-    write_at(rt, stream, 4080);
-    write_at(rt, stream, 4096);
-}
+// Where sixteen octets of a keystream are printed.
+const OFFSETS: [usize; 18] = [
+    0, 16, 240, 256, 496, 512, 752, 768, 1008, 1024, 1520, 1536, 2032, 2048, 3056, 3072, 4080, 4096,
+];
 
 fn write_stream(rt: &impl Print, key: &[u8]) {
-    let mut stream = [0u8; 4112];
-    let status = whole::rc4(key, &mut stream);
-    text::write(rt, b"RFC 6229 ");
-    text::write_hex(rt, key);
-    text::write(rt, b": ");
-    text::write_status(rt, status);
-    text::end_line(rt);
-    write_offsets(rt, &stream);
-}
-
-// The two keys of `n` octets.
-fn write_keys(rt: &impl Print, n: usize)
-    requires { n ≤ 32 }
-{
-    let counting = COUNTING;
-    write_stream(rt, &counting[0..n]);
-    let digest = DIGEST;
-    let start = 32 - n;
-    write_stream(rt, &digest[start..32]);
+    let mut stream = [0; 4112];
+    let answer = whole::rc4(key, &mut stream);
+    let _ = println!(rt; "RFC 6229 {}: {}", Hex(key), text::status(&answer));
+    for offset in OFFSETS {
+        let _ = println!(rt; "{offset}: {}", Hex(&stream[offset..offset + 16]));
+    }
 }
 
 pub fn run(rt: &impl Print) {
-    write_keys(rt, 5);
-    write_keys(rt, 7);
-    write_keys(rt, 8);
-    write_keys(rt, 10);
-    write_keys(rt, 16);
-    write_keys(rt, 24);
-    write_keys(rt, 32);
+    for n in KEY_LENGTHS {
+        write_stream(rt, &COUNTING[..n]);
+        write_stream(rt, &DIGEST[32 - n..]);
+    }
 }

@@ -2,106 +2,78 @@
 ghost use Rattle.std.specs.Prelude.{◌≤◌, length};
 
 use crate::text;
+use crate::text::{Digest, Hex};
+use primitives::limits::LengthError;
 use primitives::whole;
 
 // The octets of which a call is given the first ones. They are made here and not where they are lent, since the prover takes long
 // over a large array that is made and lent in one function.
 fn octets() -> [u8; 65537] {
-    [0x5au8; 65537]
+    [0x5a; 65537]
 }
 
-fn md4(rt: &impl Print, n: usize)
-    requires { n ≤ 65537 }
+// A digest or a code of `n` octets.
+fn write_digest<F: Fn(&[u8]) -> Result<[u8; 16], LengthError>>(
+    rt: &impl Print,
+    name: &str,
+    n: usize,
+    digest: F,
+)
+    requires callable { F.IsAlwaysCallable digest }
+    requires octets { n ≤ 65537 }
 {
     let octets = octets();
-    text::write_digest(rt, b"md4 of ", n, whole::md4(&octets[0..n]));
-}
-
-fn md5(rt: &impl Print, n: usize)
-    requires { n ≤ 65537 }
-{
-    let octets = octets();
-    text::write_digest(rt, b"md5 of ", n, whole::md5(&octets[0..n]));
-}
-
-// HMAC-MD5 with a key of `n` octets.
-fn hmac_md5_key(rt: &impl Print, n: usize)
-    requires { n ≤ 65537 }
-{
-    let octets = octets();
-    text::write_digest(
-        rt,
-        b"hmac_md5 with a key of ",
-        n,
-        whole::hmac_md5(&octets[0..n], b"text"),
-    );
-}
-
-fn hmac_md5(rt: &impl Print, n: usize)
-    requires { n ≤ 65537 }
-{
-    let octets = octets();
-    text::write_digest(
-        rt,
-        b"hmac_md5 of ",
-        n,
-        whole::hmac_md5(b"key", &octets[0..n]),
-    );
+    let answer = digest(&octets[..n]);
+    let _ = println!(rt; "{name} {n}: {}", Digest(answer));
 }
 
 // RC4 with a key of `n` octets 01, over sixteen octets 5a.
-fn rc4_key(rt: &impl Print, n: usize)
+fn write_rc4_key(rt: &impl Print, n: usize)
     requires { n ≤ 257 }
 {
-    let key = [0x01u8; 257];
-    let mut data = [0x5au8; 16];
-    let status = whole::rc4(&key[0..n], &mut data);
-    text::write_name(rt, b"rc4 with a key of ", n);
-    text::write_status(rt, status);
-    text::write(rt, b" ");
-    text::write_hex(rt, &data);
-    text::end_line(rt);
+    let key = [0x01; 257];
+    let mut data = [0x5a; 16];
+    let answer = whole::rc4(&key[..n], &mut data);
+    let _ = println!(rt;
+        "rc4 with a key of {n}: {} {}",
+        text::status(&answer),
+        Hex(&data)
+    );
 }
 
 // Data run through RC4 under one key: the status, the last octet afterwards, and the MD5 digest of those before it.
 fn write_rc4(rt: &impl Print, octets: &mut [u8])
     requires { 1 ≤ length octets.old }
 {
-    let status = whole::rc4(b"key", octets);
-    let n = octets.len();
-    let last = n - 1;
-    text::write_name(rt, b"rc4 of ", n);
-    text::write_status(rt, status);
-    text::write(rt, b" ");
-    text::write_hex(rt, &octets[last..n]);
-    text::write(rt, b" md5: ");
-    text::write_answer(rt, whole::md5(&octets[0..last]));
-}
-
-fn rc4(rt: &impl Print, n: usize)
-    requires { (1 ≤ n) × (n ≤ 65537) }
-{
-    let mut octets = octets();
-    write_rc4(rt, &mut octets[0..n]);
+    let status = text::status(&whole::rc4(b"key", octets));
+    let last = octets.len() - 1;
+    let _ = println!(rt;
+        "rc4 of {}: {status} {:02x} md5: {}",
+        octets.len(),
+        octets[last],
+        Digest(whole::md5(&octets[..last]))
+    );
 }
 
 pub fn run(rt: &impl Print) {
-    md4(rt, 65536);
-    md4(rt, 65537);
-    md5(rt, 65536);
-    md5(rt, 65537);
-    hmac_md5_key(rt, 0);
-    hmac_md5_key(rt, 64);
-    hmac_md5_key(rt, 65);
-    hmac_md5_key(rt, 65536);
-    hmac_md5_key(rt, 65537);
-    hmac_md5(rt, 0);
-    hmac_md5(rt, 65472);
-    hmac_md5(rt, 65473);
-    rc4_key(rt, 0);
-    rc4_key(rt, 1);
-    rc4_key(rt, 256);
-    rc4_key(rt, 257);
-    rc4(rt, 65536);
-    rc4(rt, 65537);
+    for n in [65536, 65537] {
+        write_digest(rt, "md4 of", n, whole::md4);
+    }
+    for n in [65536, 65537] {
+        write_digest(rt, "md5 of", n, whole::md5);
+    }
+    for n in [0, 64, 65, 65536, 65537] {
+        write_digest(rt, "hmac_md5 with a key of", n, |key| {
+            whole::hmac_md5(key, b"text")
+        });
+    }
+    for n in [0, 65472, 65473] {
+        write_digest(rt, "hmac_md5 of", n, |text| whole::hmac_md5(b"key", text));
+    }
+    for n in [0, 1, 256, 257] {
+        write_rc4_key(rt, n);
+    }
+    for n in [65536, 65537] {
+        write_rc4(rt, &mut octets()[..n]);
+    }
 }

@@ -1,56 +1,37 @@
-// The lines that the program writes.
-use primitives::limits::Status;
-use primitives::whole::Digest;
+// How octets and the answers of the calls are written.
+use primitives::limits::LengthError;
+use std::fmt;
+use std::fmt::Display;
 use tokens::answer::Refusal;
 
-// Octets as they are. That some could not be written is left to the comparison with the file `stdout`.
-pub fn write(rt: &impl Print, octets: &[u8]) {
-    let _ = rt.write_all(octets);
-}
-
 // Octets in hexadecimal.
-pub fn write_hex(rt: &impl Print, octets: &[u8]) {
-    for octet in octets {
-        let _ = print!(rt; "{octet:02x}");
+#[derive(Clone, Copy)]
+pub struct Hex<'a>(pub &'a [u8]);
+
+impl Display for Hex<'_> {
+    fn fmt<W: fmt::Write>(&self, f: &mut fmt::Formatter<W>) -> fmt::Result {
+        for octet in self.0 {
+            write!(f, "{octet:02x}")?;
+        }
+        Ok(())
     }
 }
 
-// A number in decimal.
-pub fn write_decimal(rt: &impl Print, n: usize) {
-    let _ = print!(rt; "{n}");
-}
-
-// The name of a line, which has a number at its end.
-pub fn write_name(rt: &impl Print, name: &[u8], number: usize) {
-    write(rt, name);
-    write_decimal(rt, number);
-    write(rt, b": ");
-}
-
-// The number of a status.
-pub fn write_status(rt: &impl Print, status: Status) {
-    match status {
-        Status::Done => write_decimal(rt, 0),
-        Status::Length => write_decimal(rt, Refusal::Length.number() as usize),
+// The number of a call's status: 0, or that of a length outside the limits.
+pub fn status<T>(answer: &Result<T, LengthError>) -> u32 {
+    match answer {
+        Ok(_) => 0,
+        Err(_) => Refusal::Length.number(),
     }
 }
 
-pub fn end_line(rt: &impl Print) {
-    write(rt, b"\n");
-}
+// A digest after the number of its status. A refused call has zeros for it.
+#[derive(Clone, Copy)]
+pub struct Digest(pub Result<[u8; 16], LengthError>);
 
-// The number of the answer's status and its digest, to the end of the line.
-pub fn write_answer(rt: &impl Print, answer: Digest) {
-    let status = answer.status;
-    let octets = answer.octets;
-    write_status(rt, status);
-    write(rt, b" ");
-    write_hex(rt, &octets);
-    end_line(rt);
-}
-
-// A line with a digest.
-pub fn write_digest(rt: &impl Print, name: &[u8], number: usize, answer: Digest) {
-    write_name(rt, name, number);
-    write_answer(rt, answer);
+impl Display for Digest {
+    fn fmt<W: fmt::Write>(&self, f: &mut fmt::Formatter<W>) -> fmt::Result {
+        let octets = self.0.unwrap_or([0; 16]);
+        write!(f, "{} {}", status(&self.0), Hex(&octets))
+    }
 }

@@ -1,5 +1,5 @@
 -- The rules of a session: what a sequence number is to it, and which numbers are billed.
-use Rattle.std.specs.Prelude.{ℕ, ◌+◌, ◌-◌, ◌%◌, Bool, true, false, cond, ◌==◌, nat_le, nat_lt}
+use Rattle.std.specs.Prelude.{ℕ, ◌+◌, ◌-◌, ◌%◌, Bool, true, false, cond, ◌==◌, nat_le, nat_lt, List, codes}
 use Rattle.tokens.specs.Token.{sequence_numbers}
 use Rattle.billing.specs.declared.status.Status.{Status}
 use Rattle.billing.specs.declared.status.Status.TheVariants.{InOrder, Gap, Late, Duplicate, Old, Outside}
@@ -12,6 +12,15 @@ number Late = 3
 number Duplicate = 4
 number Old = 5
 number Outside = 6
+
+-- the words of a status
+abbrev pub words : Status → List ℕ
+words InOrder = codes "in order"
+words Gap = codes "gap"
+words Late = codes "late"
+words Duplicate = codes "duplicate"
+words Old = codes "old"
+words Outside = codes "outside"
 
 -- the distance of a sequence number: the number minus the session's first, modulo 2^32
 unfoldable pub distance : ℕ → ℕ → ℕ

@@ -1,5 +1,5 @@
 // What a sequence number is to a session.
-ghost use Rattle.std.specs.Prelude.{◌≡◌};
+ghost use Rattle.std.specs.Prelude.{◌≡◌, Some};
 ghost use Rattle.billing.specs.Status as Spec;
 
 use std::fmt;
@@ -32,6 +32,8 @@ impl Status {
 }
 
 impl fmt::Display for Status {
+    ghost output = { λ status. Some (Spec.words status) };
+
     fn fmt<W: fmt::Write>(&self, f: &mut fmt::Formatter<W>) -> fmt::Result {
         f.write_str(match self {
             Status::InOrder => "in order",

@@ -1,10 +1,15 @@
 -- UTF-8 and UTF-16: how characters are written (RFC 3629, section 3; RFC 2781, section 2.1), and that a text is read exactly when it is
 -- written so.
-use Rattle.std.specs.Prelude.{ℕ, ◌+◌, ◌*◌, ◌-◌, ◌/◌, ◌%◌, ◌≤◌, ◌<◌, ◌≡◌, Bool, true, cond, ◌&&◌, ◌||◌, List, [], ◌∷◌, ◌++◌, leb, ltb, length, get_or, take, drop, Option, Some, None, Result, Ok, Err}
+use Rattle.std.specs.Prelude.{ℕ, ◌+◌, ◌*◌, ◌-◌, ◌/◌, ◌%◌, ◌≤◌, ◌<◌, ◌≡◌, Bool, true, cond, ◌&&◌, ◌||◌, List, [], ◌∷◌, ◌++◌, leb, ltb, length, get_or, take, drop, Option, Some, None, Result, Ok, Err, codes}
 use Rattle.tokens.specs.Octets.{same}
 use Rattle.text.specs.declared.utf8.Character.{Character}
 use Rattle.text.specs.declared.utf8.TextError.{TextError}
 use Rattle.text.specs.declared.utf8.TextError.TheVariants.{NotUtf8, TooLong}
+
+-- the words of an error
+abbrev pub words : TextError → List ℕ
+words NotUtf8 = codes "not UTF-8"
+words TooLong = codes "longer than 1024 octets"
 
 -- ---- Writing
 

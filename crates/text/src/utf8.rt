@@ -1,5 +1,5 @@
 // UTF-8 (RFC 3629) read as the units of UTF-16 (RFC 2781).
-ghost use Rattle.std.specs.Prelude.{◌≡◌, ◌+◌, ◌≤◌, ◌<◌, length};
+ghost use Rattle.std.specs.Prelude.{◌≡◌, ◌+◌, ◌≤◌, ◌<◌, length, Some};
 ghost use Rattle.text.specs.Utf8 as Spec;
 
 use crate::units::Units;
@@ -14,6 +14,8 @@ pub enum TextError {
 }
 
 impl fmt::Display for TextError {
+    ghost output = { λ error. Some (Spec.words error) };
+
     fn fmt<W: fmt::Write>(&self, f: &mut fmt::Formatter<W>) -> fmt::Result {
         f.write_str(match self {
             TextError::NotUtf8 => "not UTF-8",

@@ -1,5 +1,5 @@
 -- The refusals by their numbers, and what comes of a call: its result, or why it is refused.
-use Rattle.std.specs.Prelude.{ℕ, Bool, true, false, ⊤, Result, Ok, Err}
+use Rattle.std.specs.Prelude.{ℕ, Bool, true, false, ⊤, List, Result, Ok, Err, codes}
 use Rattle.tokens.specs.declared.answer.Refusal.{Refusal}
 use Rattle.tokens.specs.declared.answer.Refusal.TheVariants.{Length, Region, Usage, Header, Direction, Checksum, Pad, Frame}
 use Rattle.tokens.specs.declared.answer.Unwrapped.{Unwrapped}
@@ -14,6 +14,17 @@ number Direction = 5
 number Checksum = 6
 number Pad = 7
 number Frame = 9
+
+-- the words of a refusal
+abbrev pub words : Refusal → List ℕ
+words Length = codes "a length is outside the limits"
+words Region = codes "the region does not lie inside the buffer"
+words Usage = codes "the usage is not 1 to 15"
+words Header = codes "the first eight octets are not a header of this kind of token"
+words Direction = codes "the direction octets are not those of the expected sender; a wrong key or strength shows so too"
+words Checksum = codes "the checksum differs"
+words Pad = codes "the last octet of the opened token is not 01"
+words Frame = codes "not one whole frame"
 
 -- what comes of a call: its result, or why it is refused
 abbrev pub Outcome : Type 0 → Type 0

@@ -1,5 +1,5 @@
 // Why a call is refused, and what an opened Wrap token holds. `specs/Answer.antt` has the number of each refusal.
-ghost use Rattle.std.specs.Prelude.{◌≡◌};
+ghost use Rattle.std.specs.Prelude.{◌≡◌, Some};
 ghost use Rattle.tokens.specs.Answer as Spec;
 ghost use Rattle.tokens.specs.declared.answer.Refusal.TheVariants.{Length};
 
@@ -30,6 +30,8 @@ impl Refusal {
 }
 
 impl fmt::Display for Refusal {
+    ghost output = { λ refusal. Some (Spec.words refusal) };
+
     fn fmt<W: fmt::Write>(&self, f: &mut fmt::Formatter<W>) -> fmt::Result {
         f.write_str(match self {
             Refusal::Length => "a length is outside the limits",

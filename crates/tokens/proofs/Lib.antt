@@ -4,6 +4,7 @@ pub mod Laws
 pub mod SameOctets
 pub mod Steps
 mod Placing
+mod Salts
 mod Lent
 mod SignedText
 mod Sessions

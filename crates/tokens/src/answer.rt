@@ -54,7 +54,7 @@ impl From<LengthError> for Refusal {
     ghost from_gives = { λ _ refusal. refusal ≡ Length };
 
     fn from(_: LengthError) -> Self {
-        Refusal::Length
+        Self::Length
     }
 }
 

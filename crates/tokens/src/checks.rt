@@ -6,16 +6,13 @@ ghost use Rattle.tokens.specs.Octets as Spec;
 ghost use Rattle.tokens.specs.declared.answer.Refusal.TheVariants as refusal;
 
 use crate::answer::Refusal;
+use primitives::limits;
 
 // Whether a length lies from `least` to `most`.
 pub fn length(least: usize, most: usize, n: usize) -> Result<(), Refusal>
     ensures { result ≡ tested (within least most n) refusal.Length }
 {
-    if least <= n && n <= most {
-        Ok(())
-    } else {
-        Err(Refusal::Length)
-    }
+    limits::length_status(least, most, n).map_err(Refusal::from)
 }
 
 // Whether the n octets from `start` end at `end` or before.
@@ -29,7 +26,8 @@ pub fn region(start: usize, n: usize, end: usize) -> Result<(), Refusal>
     }
 }
 
-// Whether two lists have the same octets. All of them are looked at, whichever differ.
+// Whether two lists have the same octets. All of them are looked at, whichever differ: `==` would stop at the first that does, and show
+// by its time how much of a checksum is right.
 pub fn same(a: &[u8], b: &[u8]) -> bool
     ensures { result ≡ Spec.same a.now b.now }
 {

@@ -30,13 +30,6 @@ struct Keys {
     k2: [u8; 16],
 }
 
-// The octets before the message.
-#[derive(Clone, Copy)]
-struct Front {
-    checksum: [u8; 16],
-    confounder: [u8; 8],
-}
-
 impl MessageKey {
     // K1 and K2.
     fn derive(self) -> Keys

@@ -1,5 +1,5 @@
 // A few octets, at most N, in an array.
-ghost use Rattle.std.specs.Prelude.{◌≡◌, ◌≤◌, ◌↔◌, ℕ, List, length, take, IsTrue};
+ghost use Rattle.std.specs.Prelude.{◌≡◌, ◌≤◌, ℕ, List, length, take};
 
 use std::marker::Model;
 
@@ -38,12 +38,6 @@ impl<const N: usize> Short<N> {
         ensures most { result ≤ N }
     {
         self.length
-    }
-
-    pub fn is_empty(&self) -> bool
-        ensures { IsTrue result ↔ (length self.now ≡ 0) }
-    {
-        self.length == 0
     }
 
     pub fn as_slice(&self) -> &[u8]

@@ -45,7 +45,10 @@ pub fn run(rt: &impl Print) {
     let key = key::password_key(&units).unwrap_or([0; 16]);
     let _ = println!(rt; "RFC 4757 2 foo: {}", Hex(&key));
     for (name, number) in USAGES {
-        let t = Usage::try_from(number).map_or([0; 4], |usage| usage.t());
+        let t = match Usage::try_from(number) {
+            Ok(usage) => usage.t(),
+            Err(_) => [0; 4],
+        };
         let _ = println!(rt; "{name}: {number} {}", Hex(&t));
     }
 }

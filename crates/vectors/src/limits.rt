@@ -21,8 +21,9 @@ fn write_digest<F: Fn(&[u8]) -> Result<[u8; 16], LengthError>>(
 )
     requires { F.IsAlwaysCallable digest }
 {
+    let n = octets.len();
     let answer = digest(octets);
-    let _ = println!(rt; "{name} {}: {}", octets.len(), Digest(answer));
+    let _ = println!(rt; "{name} {n}: {}", Digest(answer));
 }
 
 // RC4 with a key of `n` octets 01, over sixteen octets 5a.

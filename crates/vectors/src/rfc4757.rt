@@ -41,7 +41,10 @@ const USAGES: [(&str, u32); 15] = [
 ];
 
 fn write_key(rt: &impl Print, name: &str, units: &[u16]) {
-    let key = key::password_key(units).unwrap_or([0; 16]);
+    let key = match key::password_key(units) {
+        Ok(key) => key,
+        Err(_) => [0; 16],
+    };
     let _ = println!(rt; "RFC 4757 2 {name}: {}", Hex(&key));
 }
 

@@ -28,14 +28,15 @@ fn write_suite<F: Fn(&[u8]) -> Result<[u8; 16], LengthError>>(
     }
 }
 
-// The tests of RFC 2104: a key and a message.
+// The keys and the messages of RFC 2104.
+const CODES: [(&[u8], &[u8]); 3] = [
+    (&[0x0b; 16], b"Hi There"),
+    (b"Jefe", b"what do ya want for nothing?"),
+    (&[0xaa; 16], &[0xdd; 50]),
+];
+
 fn write_codes(rt: &impl Print) {
-    let cases: [(&[u8], &[u8]); 3] = [
-        (&[0x0b; 16], b"Hi There"),
-        (b"Jefe", b"what do ya want for nothing?"),
-        (&[0xaa; 16], &[0xdd; 50]),
-    ];
-    for (i, (key, message)) in cases.iter().enumerate() {
+    for (i, (key, message)) in CODES.iter().enumerate() {
         let answer = whole::hmac_md5(key, message);
         let _ = println!(rt; "RFC 2104 {}: {}", i + 1, Digest(answer));
     }

@@ -1,5 +1,5 @@
 // The keystreams of RFC 6229: RC4 over zeros, at eighteen offsets under each of its fourteen keys.
-ghost use Rattle.std.specs.Prelude.{◌≤◌};
+ghost use Rattle.std.specs.Prelude.{◌≤◌, length};
 
 use crate::text;
 use crate::text::Hex;
@@ -21,13 +21,20 @@ const OFFSETS: [usize; 18] = [
     0, 16, 240, 256, 496, 512, 752, 768, 1008, 1024, 1520, 1536, 2032, 2048, 3056, 3072, 4080, 4096,
 ];
 
+// The sixteen octets of a keystream at each offset.
+fn write_offsets(rt: &impl Print, stream: &[u8])
+    requires { 4112 ≤ length stream.now }
+{
+    for offset in OFFSETS {
+        let _ = println!(rt; "{offset}: {}", Hex(&stream[offset..offset + 16]));
+    }
+}
+
 fn write_stream(rt: &impl Print, key: &[u8]) {
     let mut stream = [0; 4112];
     let answer = whole::rc4(key, &mut stream);
     let _ = println!(rt; "RFC 6229 {}: {}", Hex(key), text::status(&answer));
-    for offset in OFFSETS {
-        let _ = println!(rt; "{offset}: {}", Hex(&stream[offset..offset + 16]));
-    }
+    write_offsets(rt, &stream);
 }
 
 pub fn run(rt: &impl Print) {

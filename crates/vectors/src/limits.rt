@@ -12,18 +12,17 @@ fn octets() -> [u8; 65537] {
     [0x5a; 65537]
 }
 
-// A digest or a code of `n` octets.
+// A digest or a code of these octets, or under them as a key.
 fn write_digest<F: Fn(&[u8]) -> Result<[u8; 16], LengthError>>(
     rt: &impl Print,
     name: &str,
-    n: usize,
+    octets: &[u8],
     digest: F,
 )
-    requires callable { F.IsAlwaysCallable digest }
-    requires octets { n ≤ 65537 }
+    requires { F.IsAlwaysCallable digest }
 {
-    let octets = octets();
-    let answer = digest(&octets[..n]);
+    let n = octets.len();
+    let answer = digest(octets);
     let _ = println!(rt; "{name} {n}: {}", Digest(answer));
 }
 
@@ -56,24 +55,26 @@ fn write_rc4(rt: &impl Print, octets: &mut [u8])
 }
 
 pub fn run(rt: &impl Print) {
+    let octets = octets();
     for n in [65536, 65537] {
-        write_digest(rt, "md4 of", n, whole::md4);
+        write_digest(rt, "md4 of", &octets[..n], whole::md4);
     }
     for n in [65536, 65537] {
-        write_digest(rt, "md5 of", n, whole::md5);
+        write_digest(rt, "md5 of", &octets[..n], whole::md5);
     }
     for n in [0, 64, 65, 65536, 65537] {
-        write_digest(rt, "hmac_md5 with a key of", n, |key| {
-            whole::hmac_md5(key, b"text")
-        });
+        let code = |key: &[u8]| whole::hmac_md5(key, b"text");
+        write_digest(rt, "hmac_md5 with a key of", &octets[..n], code);
     }
     for n in [0, 65472, 65473] {
-        write_digest(rt, "hmac_md5 of", n, |text| whole::hmac_md5(b"key", text));
+        let code = |text: &[u8]| whole::hmac_md5(b"key", text);
+        write_digest(rt, "hmac_md5 of", &octets[..n], code);
     }
     for n in [0, 1, 256, 257] {
         write_rc4_key(rt, n);
     }
     for n in [65536, 65537] {
-        write_rc4(rt, &mut octets()[..n]);
+        let mut data = octets;
+        write_rc4(rt, &mut data[..n]);
     }
 }

@@ -40,12 +40,25 @@ const USAGES: [(&str, u32); 15] = [
     ("KRB-SAFE cksum", Usage::KRB_SAFE_CKSUM),
 ];
 
+fn write_key(rt: &impl Print, name: &str, units: &[u16]) {
+    let key = match key::password_key(units) {
+        Ok(key) => key,
+        Err(_) => [0; 16],
+    };
+    let _ = println!(rt; "RFC 4757 2 {name}: {}", Hex(&key));
+}
+
+fn write_type(rt: &impl Print, name: &str, number: u32) {
+    let t = match Usage::try_from(number) {
+        Ok(usage) => usage.t(),
+        Err(_) => [0; 4],
+    };
+    let _ = println!(rt; "{name}: {number} {}", Hex(&t));
+}
+
 pub fn run(rt: &impl Print) {
-    let units: [u16; 3] = [0x66, 0x6f, 0x6f];
-    let key = key::password_key(&units).unwrap_or([0; 16]);
-    let _ = println!(rt; "RFC 4757 2 foo: {}", Hex(&key));
+    write_key(rt, "foo", &[0x66, 0x6f, 0x6f]);
     for (name, number) in USAGES {
-        let t = Usage::try_from(number).map_or([0; 4], |usage| usage.t());
-        let _ = println!(rt; "{name}: {number} {}", Hex(&t));
+        write_type(rt, name, number);
     }
 }

@@ -23,6 +23,22 @@ pub struct Received {
     pub window: Window,
 }
 
+impl Received {
+    // The number of the status that a caller is given, 0 where there is none.
+    pub fn number(self) -> u32
+        ensures { result ≡ Spec.number self.status }
+    {
+        self.status.map_or(0, Status::number)
+    }
+
+    // Whether the number was billed.
+    pub fn is_billed(self) -> bool
+        ensures { result ≡ Spec.is_billed self.status }
+    {
+        self.status.is_some_and(Status::is_billed)
+    }
+}
+
 // What a token holds, or why it is refused, and what came of its number.
 #[derive(Clone, Copy, Debug, PartialEq, Eq)]
 pub struct ReceivedToken<T> {

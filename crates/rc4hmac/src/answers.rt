@@ -5,7 +5,6 @@ ghost use Rattle.rc4hmac.specs.Answers.{window_words, ValueOut, UnwrappedOut, Re
 ghost use Rattle.rc4hmac.specs.Primitives.{outcome};
 
 use billing::receive::Received;
-use billing::status::Status;
 use billing::window::Window;
 use primitives::limits::LengthError;
 use tokens::answer::{Refusal, Unwrapped};
@@ -82,8 +81,8 @@ pub fn window_out(window: Window, out: &mut [u64; 4])
 pub fn received_out(received: Received, window: &mut [u64; 4], status: &mut u32)
     ensures { ReceivedOut received window.old window.new status.new }
 {
-    *status = received.status.map_or(0, Status::number);
-    if received.status.is_some_and(Status::is_billed) {
+    *status = received.number();
+    if received.is_billed() {
         window_out(received.window, window);
     }
 }

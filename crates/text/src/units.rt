@@ -5,7 +5,7 @@ ghost use Rattle.text.specs.Utf8 as Spec;
 use std::marker::Model;
 
 // At most 1,024 units. A contract sees the list of them.
-#[derive(Debug, Drop)]
+#[derive(Clone, Debug, Drop)]
 pub struct Units {
     units: [u16; 1024],
     count: usize,

@@ -4,7 +4,7 @@ ghost use Rattle.std.specs.Prelude.{◌≡◌, ◌≤◌, ℕ, List, length, tak
 use std::marker::Model;
 
 // At most N octets. Clauses see them as a list.
-#[derive(Drop)]
+#[derive(Clone, Debug, Drop)]
 pub struct Short<const N: usize> {
     octets: [u8; N],
     length: usize,

@@ -1,5 +1,5 @@
 // Tokens received into a window: a token is read, and the sequence number that it presents is billed. A token that is refused never
-// reaches the window.
+// reaches the window. Regions are given as in `tokens`.
 ghost use Rattle.std.specs.Prelude.{◌≡◌, ◌+◌};
 ghost use Rattle.tokens.specs.Answer.{status_number, number_found, unwrapped_sequence, unwrapped_sealed, unwrapped_length};
 ghost use Rattle.tokens.specs.Limits.{buffer_after};

@@ -12,7 +12,8 @@ const OUTSIDE_FROM: u32 = 2147483648;
 const MARKS: u32 = 64;
 
 // The session's first number, the next expected distance from it, the marks of the distances below that, and how many numbers were
-// billed. Bit k of `seen` is the mark of the distance next - 1 - k. Every value is legal.
+// billed. Bit k of `seen` is the mark of the distance next - 1 - k. Every value is legal. It is handed on by value, as C's four numbers
+// are: the caller keeps the old one where nothing was billed.
 #[derive(Clone, Copy, Debug, PartialEq, Eq)]
 pub struct Window {
     pub first: u32,

@@ -1,4 +1,4 @@
-// The framed MIC token: RFC 4757, section 7.2, in the frame of RFC 2743, section 3.1.
+// The framed MIC token: RFC 4757, section 7.2, in the frame of RFC 2743, section 3.1. Regions are given as in `tokens::mic`.
 ghost use Rattle.std.specs.Prelude.{◌≡◌, length};
 ghost use Rattle.tokens.specs.Answer.{map_ok, status_number, number_found};
 ghost use Rattle.tokens.specs.Limits.{buffer_after};

@@ -1,4 +1,4 @@
-// The framed Wrap token: RFC 4757, section 7.3, in the frame of RFC 2743, section 3.1.
+// The framed Wrap token: RFC 4757, section 7.3, in the frame of RFC 2743, section 3.1. Regions and parts are given as in `tokens::wrap`.
 ghost use Rattle.std.specs.Prelude.{◌≡◌, length};
 ghost use Rattle.tokens.specs.Answer.{map_ok, status_number, unwrapped_sequence, unwrapped_sealed, unwrapped_length};
 ghost use Rattle.tokens.specs.Limits.{buffer_after};

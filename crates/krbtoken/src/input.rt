@@ -25,6 +25,7 @@ pub fn read(
 ) -> Result<usize, WrongUse>
     ensures { IfOk result (λ n. n ≤ length buf.new) }
 {
+    // How far a turn goes is known only when it has read.
     let mut n: usize = 0;
     while n < buf.len() {
         match from.read(&mut buf[n..]) {

@@ -5,7 +5,8 @@ ghost use Rattle.primitives.specs.Hash as Spec;
 
 use crate::{md4, md5};
 
-// Which compression a digest is made by; all else is the same for both.
+// Which compression a digest is made by; all else is the same for both. An enum and no type parameter, since the definitions take it as
+// an argument (`Spec.digest`).
 #[derive(Clone, Copy)]
 pub enum Algorithm {
     Md4,
@@ -22,7 +23,7 @@ pub struct Words {
 }
 
 // The state after some of a message: the words after its whole blocks, the octets since then at the front of the block, and
-// how many octets it has, modulo 2^64.
+// how many octets it has, modulo 2^64. The block stands first, where it is aligned: elsewhere MD4 and MD5 take up to a tenth longer.
 #[derive(Clone, Copy)]
 pub struct Hash {
     pub block: [u8; 64],
@@ -148,6 +149,7 @@ impl Hash {
             mut count,
             algorithm,
         } = self;
+        // No iterator gives parts of the sizes that the block has room for.
         let mut rest = part;
         while !rest.is_empty() {
             let at = (count % 64) as usize;

@@ -34,7 +34,7 @@ fn sender_of(acceptor: u32) -> Sender
     }
 }
 
-// The key, the strength and the sender of a token.
+// The key, the strength and the sender of a token, which C gives one by one.
 pub fn context_of(key: &[u8; 16], export: u32, acceptor: u32) -> Context
     ensures { result ≡ context_of key.now export acceptor }
 {

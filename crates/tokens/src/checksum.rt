@@ -1,4 +1,5 @@
-// The keyed checksum: RFC 4757, section 4.
+// The keyed checksum: RFC 4757, section 4. A usage is a number, as C gives it: that it is no usage is an answer of the calls, after that
+// of a length.
 ghost use Rattle.std.specs.Prelude.{◌≡◌};
 ghost use Rattle.tokens.specs.Answer.{status_answer};
 ghost use Rattle.tokens.specs.Checksum as Spec;

@@ -1,4 +1,6 @@
 // The MIC token: RFC 4757, section 7.2.
+//
+// A region is a buffer, a start and a length, as C gives it: that it leaves its buffer is an answer of the calls.
 ghost use Rattle.std.specs.Prelude.{◌≡◌, length};
 ghost use Rattle.tokens.specs.Answer.{map_ok, status_number, number_found};
 ghost use Rattle.tokens.specs.Limits.{buffer_after};

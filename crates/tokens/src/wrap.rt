@@ -1,4 +1,7 @@
 // The Wrap token: RFC 4757, section 7.3.
+//
+// A region is a buffer, a start and a length, as C gives it: that it leaves its buffer is an answer of the calls. The sequence number,
+// the confounder and the sealing are no struct, since only the confounder is changed in place.
 ghost use Rattle.std.specs.Prelude.{◌≡◌, ◌++◌, ◌+◌, ◌-◌, ◌≤◌, length, take, drop};
 ghost use Rattle.tokens.specs.Answer.{status_answer, status_number, map_ok, unwrapped_sequence, unwrapped_sealed, unwrapped_length};
 ghost use Rattle.tokens.specs.Limits.{buffer_after};

@@ -11,8 +11,11 @@ use lib.Seq.{drop-cons, take_all, take-length, take-suc-set, length-take-le, set
 use borrow.Author.Tests.{ltb-true, ltb-false, lt-ltb, le-leb, lt-leb, eq-eqb, ne_eqb}
 use Rattle.primitives.specs.Octets.{Octets}
 use Rattle.tokens.specs.Limits.{placed}
-use Rattle.text.specs.Hex.{digit, digits, value, octet, are_digits, spells, octets_of, fitting, count, decode, ReadBack}
+use Rattle.text.specs.Hex.{digit, digits, value, octet, are_digits, spells, octets_of, fitting, count, ReadBack}
 use Rattle.std.specs.Prelude.{cond, ◌&&◌, Some, None}
+use Rattle.std.specs.Char.{is_ascii_hexdigit}
+use Rattle.std.specs.List.{list_all}
+use Rattle.text.proofs.DigitValues.{library_digit}
 use Rattle.text.proofs.Ranges.{inside, beyond}
 
 -- ---- Stores, one after the other
@@ -123,22 +126,27 @@ module _ (text : List ℕ) (i : ℕ) (h : 2 * i + 1 < length text) where
         )
         said
 
+-- the octets that the library takes for digits
+pub library_digits : (text : List ℕ) → list_all is_ascii_hexdigit text ≡ are_digits text
+unfolding are_digits
+library_digits [] = refl
+library_digits (c ∷ text) = rw (library_digits text, library_digit c)
+
 module _ (text : List ℕ) (n : ℕ) where
-  pub other_length : (length text ≡ 2 * n → ⊥) → None ≡ decode n text
-  unfolding spells decode
+  pub other_length : (length text ≡ 2 * n → ⊥) → spells n text ≡ false
+  unfolding spells
   other_length h = rw (ne_eqb (length text) (2 * n) h)
 
-  pub other_text : length text ≡ 2 * n → are_digits text ≡ false → None ≡ decode n text
-  unfolding spells decode
-  other_text h e = rw (eq-eqb (length text) (2 * n) h, e)
+  module _ (h : length text ≡ 2 * n) where
+    pub same_length : spells n text ≡ are_digits text
+    unfolding spells
+    same_length = rw (eq-eqb (length text) (2 * n) h)
 
-  pub spelled : (octets : List ℕ) → length octets ≡ n → length text ≡ 2 * n → are_digits text ≡ are_digits (drop (2 * n) text)
-      → take n octets ++ octets_of (drop (2 * n) text) ≡ octets_of text → Some octets ≡ decode n text
-  unfolding spells decode are_digits octets_of
-  spelled octets size h digits said =
-      let rest = drop_of_length-le text {i = 2 * n} (omega arith) in
-      let all : octets ≡ octets_of text = sym (append-nil octets) ∙ (rw (rest, take_all n octets (omega arith)) at said) in
-      rw (eq-eqb (length text) (2 * n) h, rw rest at digits, all)
+    pub all_read : (octets : List ℕ) → length octets ≡ n → take n octets ++ octets_of (drop (2 * n) text) ≡ octets_of text → octets ≡ octets_of text
+    unfolding octets_of
+    all_read octets size said =
+        let rest = drop_of_length-le text {i = 2 * n} (omega arith) in
+        sym (append-nil octets) ∙ (rw (rest, take_all n octets (omega arith)) at said)
 
 -- ---- What is written is read back
 

@@ -1,5 +1,5 @@
 -- Octets in hexadecimal: the digits of an octet, what digits say, what the calls answer, and that what is written is read back.
-use Rattle.std.specs.Prelude.{ℕ, ◌+◌, ◌*◌, ◌-◌, ◌/◌, ◌%◌, ◌≡◌, Bool, true, cond, ◌&&◌, List, [], ◌∷◌, eqb, leb, ltb, length, Option, Some, None}
+use Rattle.std.specs.Prelude.{ℕ, ◌+◌, ◌*◌, ◌-◌, ◌/◌, ◌%◌, ◌≡◌, Bool, true, cond, ◌&&◌, List, [], ◌∷◌, eqb, leb, ltb, length, ⊤, Option, Some, None}
 
 -- the digit of a number below 16: 0 to 9, and then a to f
 abbrev pub digit : ℕ → ℕ
@@ -43,6 +43,14 @@ fitting octets out = cond (leb (2 * length octets) (length out)) (digits octets)
 -- how many digits `encode` writes, if they all fit
 unfoldable pub count : List ℕ → List ℕ → Option ℕ
 count octets out = cond (leb (2 * length octets) (length out)) (Some (length (digits octets))) None
+
+-- what `decode_into` answers: whether the text is the digits of as many octets as `out` has
+unfoldable pub decode_into : List ℕ → List ℕ → Option ⊤
+decode_into text out = cond (spells (length out) text) (Some tt) None
+
+-- what `decode_into` leaves: the octets that the text says, if it is the digits of as many
+unfoldable pub decoded : List ℕ → List ℕ → List ℕ
+decoded text out = cond (spells (length out) text) (octets_of text) out
 
 -- what `decode` answers: the octets that the text says, if it is the digits of n octets
 unfoldable pub decode : ℕ → List ℕ → Option (List ℕ)

@@ -40,16 +40,33 @@ fn octet(high: u8, low: u8) -> Option<u8>
     Some((16 * high + low) as u8)
 }
 
+// Whether every octet of a text is a digit, in lower or upper case.
+fn are_digits(text: &[u8]) -> bool
+    ensures { result ≡ Spec.are_digits text.now }
+{
+    text.iter().all(|c| c.is_ascii_hexdigit())
+}
+
+// Reads the octets that a text is the digits of into `out`, if it is the digits of as many as `out` has. If not, `out` is as it was.
+pub fn decode_into(text: &[u8], out: &mut [u8]) -> Option<()>
+    ensures answer { result ≡ Spec.decode_into text.now out.old }
+    ensures octets { out.new ≡ Spec.decoded text.now out.old }
+{
+    if text.len() % 2 != 0 || text.len() / 2 != out.len() || !are_digits(text) {
+        return None;
+    }
+    for (i, octet) in out.iter_mut().enumerate() {
+        *octet = self::octet(text[2 * i], text[2 * i + 1])?;
+    }
+    Some(())
+}
+
 // Reads the octets that a text is the digits of, if it is the digits of as many.
+#[tactic(auto, unfolding(crate::specs::Hex::decode_into, crate::specs::Hex::decoded, crate::specs::Hex::decode))]
 pub fn decode<const N: usize>(text: &[u8]) -> Option<[u8; N]>
     ensures { result ≡ Spec.decode N text.now }
 {
-    if text.len() % 2 != 0 || text.len() / 2 != N {
-        return None;
-    }
     let mut octets = [0; N];
-    for (i, octet) in octets.iter_mut().enumerate() {
-        *octet = self::octet(text[2 * i], text[2 * i + 1])?;
-    }
+    decode_into(text, &mut octets)?;
     Some(octets)
 }

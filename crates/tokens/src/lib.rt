@@ -1,6 +1,6 @@
 // Keys, usages, the keyed checksum, encrypted messages, and MIC and Wrap tokens of RFC 4757, by its sections: `key` is section 2,
 // `usage` 3, `checksum` 4, `message` 5, `mic` 7.2 and `wrap` 7.3. Every public function takes any input, and refuses what it can't
-// use.
+// use with a `Refusal` of `answer`.
 #![tactic(auto)]
 
 pub mod answer;

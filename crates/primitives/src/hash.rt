@@ -7,13 +7,13 @@ use crate::{md4, md5};
 
 // Which compression a digest is made by; all else is the same for both. An enum and no type parameter, since the definitions take it as
 // an argument (`Spec.digest`).
-#[derive(Clone, Copy)]
+#[derive(Clone, Copy, Debug, PartialEq, Eq)]
 pub enum Algorithm {
     Md4,
     Md5,
 }
 
-// The words A, B, C and D.
+// The words A, B, C and D. They and the states of this crate may come of a key, so that they have no `Debug`, which would print it.
 #[derive(Clone, Copy)]
 pub struct Words {
     pub a: u32,

@@ -23,7 +23,8 @@ impl Sender {
     }
 }
 
-// The session key and its strength, and the sender. For a reader it is the sender that is expected.
+// The session key and its strength, and the sender. For a reader it is the sender that is expected. It has no `Debug`, which would print
+// the key.
 #[derive(Clone, Copy)]
 pub struct Context {
     pub key: [u8; 16],

@@ -5,7 +5,7 @@ ghost use Rattle.tokens.specs.Session as Spec;
 use crate::context::{Context, Sender};
 use crate::strength::Strength;
 
-// The session key and its strength, our own role, and whether the session insists on sealing.
+// The session key and its strength, our own role, and whether the session insists on sealing. As a context, it has no `Debug`.
 #[derive(Clone, Copy)]
 pub struct Session {
     pub key: [u8; 16],

@@ -2,19 +2,9 @@
 ghost use Rattle.std.specs.Prelude.{◌≡◌, ◌+◌, ◌≤◌, length};
 ghost use Rattle.tokens.specs.Limits.{placed};
 ghost use Rattle.frame.specs.Framing as Spec;
-ghost use Rattle.frame.specs.Length.{der_length};
 
 use crate::framing::{MECHANISM, TAG};
 use crate::length;
-use tokens::short::Short;
-
-// The length in the frame of a token of n octets: it counts the mechanism and the token.
-fn length_of(n: usize) -> Short<3>
-    requires { n ≤ 32801 }
-    ensures { result ≡ der_length (Spec.contents n) }
-{
-    length::shortest(MECHANISM.len() + n)
-}
 
 // How many octets stand before a token of n octets.
 #[tactic(auto, using(crate::proofs::Frames::lead_length_lem))]
@@ -22,7 +12,7 @@ pub fn width(n: usize) -> usize
     requires { n ≤ 32801 }
     ensures { (result ≡ Spec.lead_length n) × (result ≤ 15) }
 {
-    1 + length_of(n).len() + MECHANISM.len()
+    1 + length::shortest(MECHANISM.len() + n).len() + MECHANISM.len()
 }
 
 // Writes what stands before a token of n octets, from `start`.
@@ -30,7 +20,8 @@ pub fn write(buf: &mut [u8], start: usize, n: usize)
     requires { (n ≤ 32801) × (start + Spec.lead_length n ≤ length buf.old) }
     ensures { buf.new ≡ placed start (Spec.lead n) buf.old }
 {
-    let length = length_of(n);
+    let counted = MECHANISM.len() + n;
+    let length = length::shortest(counted);
     let after_tag = start + 1;
     let after_length = after_tag + length.len();
     buf[start] = TAG;

@@ -1,3 +1,2 @@
 -- The laws by which the functions of this crate are proved, and what holds of a session through the C interface.
-mod Out
 pub mod Session

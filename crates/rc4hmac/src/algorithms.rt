@@ -1,4 +1,4 @@
-// MD4, MD5, HMAC-MD5 and RC4 for C.
+// MD4, MD5, HMAC-MD5 and RC4 for C, a function for each name that C has.
 ghost use Rattle.std.specs.Prelude.{◌≡◌, replicate};
 ghost use Rattle.primitives.specs.Whole.{digested, authenticated};
 ghost use Rattle.primitives.specs.declared.hash.Algorithm.TheVariants.{Md4 as is_md4, Md5 as is_md5};
@@ -7,6 +7,7 @@ ghost use Rattle.rc4hmac.specs.Primitives.{outcome, TextOut};
 
 use crate::answers;
 use primitives::whole;
+use tokens::answer;
 use tokens::answer::Refusal;
 
 #[unsafe(no_mangle)]
@@ -34,5 +35,5 @@ pub extern "C" fn rc4hmac_hmac_md5(key: &[u8], text: &[u8], digest: &mut [u8; 16
 pub extern "C" fn rc4hmac_rc4(key: &[u8], data: &mut [u8]) -> u32
     ensures { TextOut key.now «data».old result «data».new }
 {
-    answers::status_number(&whole::rc4(key, data).map_err(Refusal::from))
+    answer::status_number(&whole::rc4(key, data).map_err(Refusal::from))
 }

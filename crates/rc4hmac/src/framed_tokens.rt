@@ -1,4 +1,4 @@
-// Framed MIC and Wrap tokens for C.
+// Framed MIC and Wrap tokens for C, which has a name for each form; so has `gss_tokens` for tokens without a frame.
 ghost use Rattle.std.specs.Prelude.{◌≡◌, length};
 ghost use Rattle.tokens.specs.Answer.{map_ok};
 ghost use Rattle.tokens.specs.Limits.{buffer_after};

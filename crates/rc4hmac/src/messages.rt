@@ -9,7 +9,7 @@ ghost use Rattle.rc4hmac.specs.Answers.{ValueOut};
 ghost use Rattle.rc4hmac.specs.Arguments.{strength_of};
 
 use crate::{answers, arguments};
-use tokens::{checksum, key, message};
+use tokens::{answer, checksum, key, message};
 
 #[unsafe(no_mangle)]
 pub extern "C" fn rc4hmac_password_key(units: &[u16], key: &mut [u8; 16]) -> u32
@@ -39,7 +39,7 @@ pub extern "C" fn rc4hmac_checksum_test(
 ) -> u32
     ensures { result ≡ status_number (status_answer (checksum_test key.now usage «data».now checksum.now)) }
 {
-    answers::status_number(&checksum::checksum_test(*key, usage, data, checksum))
+    answer::status_number(&checksum::checksum_test(*key, usage, data, checksum))
 }
 
 #[unsafe(no_mangle)]

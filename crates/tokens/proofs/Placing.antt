@@ -34,11 +34,6 @@ next_placed : (a b z : List ℕ) (n : ℕ) → length a ≡ n → placed n b (a 
 unfolding placed
 next_placed a b z n e = rw (take_at a z n e, ← e, drop-append-add a z (length b)) (sym (append_assoc a b (drop (length b) z)))
 
-pub two_placed : (a b z : List ℕ) (n : ℕ) → length a ≡ n → length z ≡ n + length b → placed n b (placed 0 a z) ≡ a ++ b
-two_placed a b z n ea ez =
-    let none : length (drop (length a) z) ≤ length b = rw length-drop (omega arith) in
-    ap (placed n b) (next_placed [] a z 0 refl) ∙ next_placed a b (drop (length a) z) n ea ∙ rw (drop_of_length-le (drop (length a) z) none) (append-nil (a ++ b))
-
 pub three_placed : (a b c z : List ℕ) (m n : ℕ) → length a ≡ m → m + length b ≡ n → length z ≡ n + length c → placed n c (placed m b (placed 0 a z)) ≡ a ++ (b ++ c)
 three_placed a b c z m n ea eb ez =
     let y = drop (length b) (drop (length a) z) in

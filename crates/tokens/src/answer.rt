@@ -1,4 +1,4 @@
-// Why a call is refused, and what an opened Wrap token holds. `specs/Answer.antt` has the number of each refusal.
+// Why a call is refused, and what an opened Wrap token holds. `specs/Answer.antt` has the number and the words of each refusal.
 ghost use Rattle.std.specs.Prelude.{◌≡◌, Some};
 ghost use Rattle.tokens.specs.Answer as Spec;
 ghost use Rattle.tokens.specs.declared.answer.Refusal.TheVariants.{Length};
@@ -7,7 +7,8 @@ use primitives::limits::LengthError;
 use std::error::Error;
 use std::fmt;
 
-// Why a call is refused: every number that a call of any crate returns, in their order. docs/RULES.md says when each is given.
+// Why a call is refused: every number that a call of any crate returns, in their order; 8 is not used. docs/RULES.md says when each is
+// given.
 #[derive(Clone, Copy, Debug, PartialEq, Eq)]
 pub enum Refusal {
     Length = 1,
@@ -21,11 +22,21 @@ pub enum Refusal {
 }
 
 impl Refusal {
-    // The number that a caller is given.
+    // The number that a caller is given. It has a name, which README and C's callers know, and no `From`.
     pub fn number(self) -> u32
         ensures { result ≡ Spec.number self }
     {
         self as u32
+    }
+}
+
+// The number of the refusal, or 0.
+pub fn status_number<T>(answer: &Result<T, Refusal>) -> u32
+    ensures { result ≡ Spec.status_number answer.now }
+{
+    match answer {
+        Ok(_) => 0,
+        Err(refusal) => refusal.number(),
     }
 }
 
@@ -59,7 +70,7 @@ impl From<LengthError> for Refusal {
 }
 
 // What a Wrap token holds beside its octets: its sequence number, whether it is sealed, and how long its message is.
-#[derive(Clone, Copy, Debug, PartialEq, Eq)]
+#[derive(Clone, Copy, Debug, Default, PartialEq, Eq)]
 pub struct Unwrapped {
     pub sequence: u32,
     pub sealed: bool,

@@ -1,4 +1,4 @@
-// The steps that make one test.
+// The tests of which a call makes several, each with its refusal.
 ghost use Rattle.std.specs.Prelude.{◌≡◌, leb, ◌+◌};
 ghost use Rattle.tokens.specs.Answer.{tested};
 ghost use Rattle.tokens.specs.Limits.{within};
@@ -8,7 +8,7 @@ ghost use Rattle.tokens.specs.declared.answer.Refusal.TheVariants as refusal;
 use crate::answer::Refusal;
 use primitives::limits;
 
-// Whether a length lies from `least` to `most`.
+// Whether a length lies from `least` to `most`. The test is that of `primitives`; the refusal is this crate's.
 pub fn length(least: usize, most: usize, n: usize) -> Result<(), Refusal>
     ensures { result ≡ tested (within least most n) refusal.Length }
 {
@@ -41,7 +41,7 @@ pub fn same(a: &[u8], b: &[u8]) -> bool
     difference == 0
 }
 
-// Whether octets are the ones expected, or the refusal. All of them are compared.
+// Compares all of some octets with those that are expected, and refuses them if they differ.
 pub fn equal(given: &[u8], expected: &[u8], refusal: Refusal) -> Result<(), Refusal>
     ensures { result ≡ tested (Spec.same given.now expected.now) refusal }
 {

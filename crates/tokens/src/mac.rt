@@ -12,7 +12,7 @@ pub fn of(key: [u8; 16], text: &[u8]) -> [u8; 16]
     Hmac::begin_outer(key).update(&digest).finish()
 }
 
-// The code of a text in two parts.
+// The code of a text in two parts. A list of parts would be plainer for no caller: there are one or two.
 pub fn of_two(key: [u8; 16], first: &[u8], second: &[u8]) -> [u8; 16]
     ensures { result ≡ hmac key (first.now ++ second.now) }
 {

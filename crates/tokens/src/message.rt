@@ -1,7 +1,8 @@
 // The encrypted message: RFC 4757, section 5.
 //
 // A region is a buffer, a start and a length, and a usage is a number, as C gives them. That a region leaves its buffer, or a number is
-// no usage, is an answer of the calls, and `answer` says which comes first.
+// no usage, is an answer of the calls, and `answer` says which comes first. Confounder and message are lent apart, as a writer is given
+// them.
 ghost use Rattle.std.specs.Prelude.{◌≡◌, ◌++◌, ◌+◌, ◌≤◌, length, drop};
 ghost use Rattle.tokens.specs.Answer.{status_answer, status_number, map_ok, number_found};
 ghost use Rattle.tokens.specs.Limits.{buffer_after};

@@ -1,4 +1,4 @@
-// Octets copied.
+// Copies octets into a buffer, and out of one.
 ghost use Rattle.std.specs.Prelude.{◌≡◌, ◌+◌, ◌≤◌, length};
 ghost use Rattle.tokens.specs.Limits.{region, placed};
 
@@ -10,7 +10,7 @@ pub fn place(buf: &mut [u8], at: usize, part: &[u8])
     buf[at..at + part.len()].copy_from_slice(part);
 }
 
-// The N octets of `buf` from `at`.
+// The N octets of `buf` from `at`. `first_chunk` of std would ask for what to do where there are fewer, which can't be.
 pub fn array_at<const N: usize>(buf: &[u8], at: usize) -> [u8; N]
     requires { at + N ≤ length buf.now }
     ensures { result ≡ region at N buf.now }

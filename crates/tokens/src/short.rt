@@ -3,7 +3,7 @@ ghost use Rattle.std.specs.Prelude.{◌≡◌, ◌≤◌, ℕ, List, length, tak
 
 use std::marker::Model;
 
-// At most N octets. Clauses see them as a list.
+// At most N octets. Clauses see them as a list. It is not `Copy`: a `Model` with room after its list has no inverse.
 #[derive(Clone, Debug, Drop)]
 pub struct Short<const N: usize> {
     octets: [u8; N],
@@ -32,7 +32,7 @@ impl<const N: usize> Short<N> {
         }
     }
 
-    // How many they are.
+    // The number of octets.
     pub fn len(&self) -> usize
         ensures is { result ≡ length self.now }
         ensures most { result ≤ N }

@@ -12,8 +12,7 @@ pub fn eight(key: [u8; 16], mut text: [u8; 8]) -> [u8; 8]
     text
 }
 
-// The confounder under the key, and the body after it where the confounder's run stopped: one stream. Run again under the same
-// key, both are back.
+// Encrypts or decrypts the confounder and the body after it, as one stream.
 pub fn run(key: [u8; 16], confounder: &mut [u8; 8], body: &mut [u8])
     ensures { confounder.new ++ body.new ≡ rc4 key (confounder.old ++ body.old) }
 {

@@ -67,7 +67,7 @@ pub fn finish_checksum(key: [u8; 16], hash: Hash) -> [u8; 8]
     octets::array_at(&sum, 0)
 }
 
-// What Kseq and Kcrypt begin with.
+// The first step of Kseq and of Kcrypt: HMAC of the salt, and the fill for export strength.
 fn salted_key(strength: Strength, key: [u8; 16]) -> [u8; 16]
     ensures { result ≡ Spec.salted_key strength key }
 {

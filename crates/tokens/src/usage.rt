@@ -7,7 +7,8 @@ use crate::answer::Refusal;
 use crate::short::Short;
 use crate::strength::Strength;
 
-// What a key is used for: T, the message type as four octets, the lowest first.
+// What a key is used for: T, the message type as four octets, the lowest first. It is no enum of fifteen: usages that have one T, as 3, 8
+// and 9, are one usage, and the numbers below are public names (docs/DECISIONS.md, 17).
 #[derive(Clone, Copy, Debug, PartialEq, Eq)]
 pub struct Usage {
     t: [u8; 4],

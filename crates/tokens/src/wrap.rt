@@ -1,7 +1,8 @@
 // The Wrap token: RFC 4757, section 7.3.
 //
-// A region is a buffer, a start and a length, as C gives it: that it leaves its buffer is an answer of the calls. The sequence number,
-// the confounder and the sealing are no struct, since only the confounder is changed in place.
+// A region is a buffer, a start and a length, as C gives it: that it leaves its buffer is an answer of the calls. So are the sequence
+// number, the confounder and the sealing. Inside, the confounder and the body are lent apart, as a writer is given them, and no struct
+// holds them: both are changed in place.
 ghost use Rattle.std.specs.Prelude.{◌≡◌, ◌++◌, ◌+◌, ◌-◌, ◌≤◌, length, take, drop};
 ghost use Rattle.tokens.specs.Answer.{status_answer, status_number, map_ok, unwrapped_sequence, unwrapped_sealed, unwrapped_length};
 ghost use Rattle.tokens.specs.Limits.{buffer_after};
@@ -58,7 +59,7 @@ fn wrap_checksum(context: Context, sealed: bool, confounder: [u8; 8], body: &[u8
     token::finish_checksum(context.key, begun.update(&confounder).update(body))
 }
 
-// Runs confounder and body through RC4 under Kcrypt, if the token is sealed. Run again, both are back.
+// Encrypts or decrypts confounder and body under Kcrypt, if the token is sealed.
 fn under_seal(
     context: Context,
     sealed: bool,

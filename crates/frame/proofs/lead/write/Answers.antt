@@ -9,17 +9,17 @@ use Rattle.frame.proofs.lead.write.Goals.{After-copy_from_slice}
 -- the length, as it stands in the buffer
 copied : (c : After-copy_from_slice) → (c.len.result ≡ length c.copy_from_slice.new.self) × (c.copy_from_slice.new.self ≡ der_length (contents c.args.n))
 copied c =
-    let same : c.copy_from_slice.new.self ≡ c.length_of-length.result = c.copy_from_slice.ensures.after ∙ c.as_slice.ensures in
-    (c.len.ensures.is ∙ ap length (sym same), same ∙ c.length_of-length.ensures)
+    let same : c.copy_from_slice.new.self ≡ c.shortest-length.result = c.copy_from_slice.ensures.after ∙ c.as_slice.ensures in
+    (c.len.ensures.is ∙ ap length (sym same), same ∙ c.shortest-length.ensures)
 
 pub bounds-buf-start : goal.bounds-buf-start
-bounds-buf-start c = omega (arith, room c.args.start c.args.n _ _ c.args.buf.now c.len.ensures.is c.length_of-length.ensures c.requires.1)
+bounds-buf-start c = omega (arith, room c.args.start c.args.n _ _ c.args.buf.now c.len.ensures.is c.shortest-length.ensures c.requires.1)
 
 pub slice_bounds-copy_from_slice-end : goal.slice_bounds-copy_from_slice-end
 slice_bounds-copy_from_slice-end c =
     let a = c.args in
-    let fits = room a.start a.n _ _ a.buf.now c.len.ensures.is c.length_of-length.ensures c.requires.1 in
-    let kept = tag_length a.start a.n _ _ a.buf.now c.len.ensures.is c.length_of-length.ensures c.requires.1 in
+    let fits = room a.start a.n _ _ a.buf.now c.len.ensures.is c.shortest-length.ensures c.requires.1 in
+    let kept = tag_length a.start a.n _ _ a.buf.now c.len.ensures.is c.shortest-length.ensures c.requires.1 in
     omega (arith, fits, kept)
 
 pub slice_bounds-copy_from_slice-end-2 : goal.slice_bounds-copy_from_slice-end-2

@@ -2,20 +2,8 @@
 use crate::words;
 use std::fmt;
 use std::fmt::Display;
+use text::hex::Hex;
 use tokens::answer::{Refusal, Unwrapped};
-
-// Octets in hexadecimal.
-#[derive(Clone, Copy)]
-pub struct Hex<'a>(pub &'a [u8]);
-
-impl Display for Hex<'_> {
-    fn fmt<W: fmt::Write>(&self, f: &mut fmt::Formatter<W>) -> fmt::Result {
-        for octet in self.0 {
-            write!(f, "{octet:02x}")?;
-        }
-        Ok(())
-    }
-}
 
 // Sixteen octets.
 #[derive(Clone, Copy, Default)]

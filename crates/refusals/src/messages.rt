@@ -1,8 +1,9 @@
 // The keyed checksum and encrypted messages.
 ghost use Rattle.std.specs.Prelude.{◌≤◌};
 
-use crate::answers::{Answer, Digest, Hex, OnBuffer};
+use crate::answers::{Answer, Digest, OnBuffer};
 use crate::{answers, samples, words};
+use text::hex::Hex;
 use tokens::strength::Strength;
 use tokens::{checksum, message};
 

@@ -1,6 +1,7 @@
 // MIC tokens.
-use crate::answers::{Answer, Hex, OnBuffer};
+use crate::answers::{Answer, OnBuffer};
 use crate::{samples, words};
+use text::hex::Hex;
 use tokens::context::Sender;
 use tokens::mic;
 use tokens::strength::Strength;

@@ -1,9 +1,10 @@
 // Wrap tokens.
 ghost use Rattle.std.specs.Prelude.{◌≤◌, length};
 
-use crate::answers::{Digest, Hex, OnBuffer, Opened};
+use crate::answers::{Digest, OnBuffer, Opened};
 use crate::{samples, words};
 use primitives::whole;
+use text::hex::Hex;
 use tokens::context::{Context, Sender};
 use tokens::strength::Strength;
 use tokens::wrap;

@@ -13,8 +13,9 @@ use Rattle.primitives.specs.Octets.{Octets}
 use Rattle.tokens.specs.Limits.{placed}
 use Rattle.text.specs.Hex.{digit, digits, value, octet, are_digits, spells, octets_of, fitting, count, ReadBack}
 use Rattle.std.specs.Prelude.{cond, ◌&&◌, Some, None}
-use Rattle.std.specs.Char.{is_ascii_hexdigit}
+use Rattle.std.specs.Char.{is_ascii_hexdigit, encode_utf8}
 use Rattle.std.specs.List.{list_all}
+use Rattle.std.proofs.lemmas.Str.{encode_ascii}
 use Rattle.text.proofs.DigitValues.{library_digit}
 use Rattle.text.proofs.Ranges.{inside, beyond}
 
@@ -74,6 +75,30 @@ module _ (octets out : List ℕ) where
       let fit = le-leb (2 * length octets) (length out) fits in
       let size : 0 + length (digits octets) ≡ 2 * length octets = omega (arith, digits_length octets) in
       (rw (fit, digits_length octets), rw (fit, e, all, take-length octets, size))
+
+-- ---- Printing
+
+digit_ascii : (n : ℕ) → n < 16 → digit n < 128
+digit_ascii n h = decided (ltb n 10) refl
+  where
+    decided : (t : Bool) → ltb n 10 ≡ t → digit n < 128
+    decided true e = let small = ltb-true n 10 e in rw e (omega arith)
+    decided false e = rw e (omega arith)
+
+-- the digits of i octets, and then those of one more
+pub printed : (octets : List ℕ) (i : ℕ) {high low : ℕ} → i < length octets → get_or octets i 0 < 256
+    → high ≡ digit (get_or octets i 0 / 16) → low ≡ digit (get_or octets i 0 % 16)
+    → digits (take i octets) ++ (encode_utf8 high ++ encode_utf8 low) ≡ digits (take (i + 1) octets)
+printed octets i {high} {low} h small eh el =
+    let x = get_or octets i 0 in
+    rw (
+      eh,
+      el,
+      encode_ascii (digit (x / 16)) (digit_ascii (x / 16) (omega arith)),
+      encode_ascii (digit (x % 16)) (digit_ascii (x % 16) (omega arith)),
+      add-one i,
+      digits_more octets i h,
+    )
 
 -- ---- Reading
 

@@ -1,7 +1,9 @@
 // Octets in hexadecimal, two digits each.
-ghost use Rattle.std.specs.Prelude.{◌≡◌, ◌<◌, ◌≤◌, length, IfSome};
+ghost use Rattle.std.specs.Prelude.{◌≡◌, ◌<◌, ◌≤◌, length, IfSome, Some};
 ghost use Rattle.tokens.specs.Limits.{placed};
 ghost use Rattle.text.specs.Hex as Spec;
+
+use std::fmt;
 
 // The digit of a number, in lower case.
 fn digit(value: u8) -> u8
@@ -12,6 +14,22 @@ fn digit(value: u8) -> u8
         b'0' + value
     } else {
         b'a' + (value - 10)
+    }
+}
+
+// Octets that are written as their digits, in lower case.
+#[derive(Clone, Copy, Debug, PartialEq, Eq)]
+pub struct Hex<'a>(pub &'a [u8]);
+
+impl fmt::Display for Hex<'_> {
+    ghost output = { λ hex. Some (Spec.digits hex.0.now) };
+
+    fn fmt<W: fmt::Write>(&self, f: &mut fmt::Formatter<W>) -> fmt::Result {
+        for octet in self.0 {
+            f.write_char(char::from(digit(octet / 16)))?;
+            f.write_char(char::from(digit(octet % 16)))?;
+        }
+        Ok(())
     }
 }
 

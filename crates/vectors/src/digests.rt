@@ -1,5 +1,5 @@
 // The test suites of RFC 1320 (A.5), RFC 1321 (A.5) and RFC 2104 (appendix).
-use crate::text::Digest;
+use crate::answers::Digest;
 use primitives::limits::LengthError;
 use primitives::whole;
 

@@ -1,9 +1,9 @@
 // The keystreams of RFC 6229: RC4 over zeros, at eighteen offsets under each of its fourteen keys.
 ghost use Rattle.std.specs.Prelude.{◌≤◌, length};
 
-use crate::text;
-use crate::text::Hex;
+use crate::answers;
 use primitives::whole;
+use text::hex::Hex;
 
 // The first key of each length is the beginning of these octets, 1 to 32.
 const COUNTING: [u8; 32] =
@@ -33,7 +33,7 @@ fn write_offsets(rt: &impl Print, stream: &[u8])
 fn write_stream(rt: &impl Print, key: &[u8]) {
     let mut stream = [0; 4112];
     let answer = whole::rc4(key, &mut stream);
-    let _ = println!(rt; "RFC 6229 {}: {}", Hex(key), text::status(&answer));
+    let _ = println!(rt; "RFC 6229 {}: {}", Hex(key), answers::status(&answer));
     write_offsets(rt, &stream);
 }
 

@@ -1,10 +1,11 @@
 // Both sides of each limit: what is taken is answered with 0 and its octets, what is not with 1, zeros and the data as they came.
 ghost use Rattle.std.specs.Prelude.{◌≤◌, length};
 
-use crate::text;
-use crate::text::{Digest, Hex};
+use crate::answers;
+use crate::answers::Digest;
 use primitives::limits::LengthError;
 use primitives::whole;
+use text::hex::Hex;
 
 // The octets of which a call is given the first ones. They are made here and not where they are lent, since the prover takes long
 // over a large array that is made and lent in one function.
@@ -35,7 +36,7 @@ fn write_rc4_key(rt: &impl Print, n: usize)
     let answer = whole::rc4(&key[..n], &mut data);
     let _ = println!(rt;
         "rc4 with a key of {n}: {} {}",
-        text::status(&answer),
+        answers::status(&answer),
         Hex(&data)
     );
 }
@@ -44,7 +45,7 @@ fn write_rc4_key(rt: &impl Print, n: usize)
 fn write_rc4(rt: &impl Print, octets: &mut [u8])
     requires { 1 ≤ length octets.old }
 {
-    let status = text::status(&whole::rc4(b"key", octets));
+    let status = answers::status(&whole::rc4(b"key", octets));
     let last = octets.len() - 1;
     let _ = println!(rt;
         "rc4 of {}: {status} {:02x} md5: {}",

@@ -1,11 +1,11 @@
 // Runs the published test vectors and the refusals at each limit. What it writes is held to the file `stdout`.
 #![tactic(auto)]
 
+mod answers;
 mod digests;
 mod keystreams;
 mod limits;
 mod rfc4757;
-mod text;
 
 fn main(rt: HostRuntime) {
     digests::run(&rt);

@@ -1,5 +1,5 @@
 // RFC 4757: the key of the password "foo" (section 2), and the number and T of each usage by its name (section 3).
-use crate::text::Hex;
+use text::hex::Hex;
 use tokens::key;
 use tokens::usage::Usage;
 

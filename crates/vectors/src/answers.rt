@@ -1,21 +1,9 @@
-// How octets and the answers of the calls are written.
+// How the answers of the calls are written.
 use primitives::limits::LengthError;
 use std::fmt;
 use std::fmt::Display;
+use text::hex::Hex;
 use tokens::answer::Refusal;
-
-// Octets in hexadecimal.
-#[derive(Clone, Copy)]
-pub struct Hex<'a>(pub &'a [u8]);
-
-impl Display for Hex<'_> {
-    fn fmt<W: fmt::Write>(&self, f: &mut fmt::Formatter<W>) -> fmt::Result {
-        for octet in self.0 {
-            write!(f, "{octet:02x}")?;
-        }
-        Ok(())
-    }
-}
 
 // The number of a call's status: 0, or that of a length outside the limits.
 pub fn status<T>(answer: &Result<T, LengthError>) -> u32 {

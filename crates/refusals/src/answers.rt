@@ -3,7 +3,7 @@ use crate::words;
 use std::fmt;
 use std::fmt::Display;
 use text::hex::Hex;
-use tokens::answer::{Refusal, Unwrapped};
+use tokens::answer::{Refusal, Unwrapped, status_number};
 
 // Sixteen octets.
 #[derive(Clone, Copy, Default)]
@@ -16,18 +16,8 @@ impl Display for Digest {
 }
 
 // What an opened Wrap token holds.
-#[derive(Clone, Copy)]
+#[derive(Clone, Copy, Default)]
 pub struct Opened(pub Unwrapped);
-
-impl Default for Opened {
-    fn default() -> Self {
-        Opened(Unwrapped {
-            sequence: 0,
-            sealed: false,
-            length: 0,
-        })
-    }
-}
 
 impl Display for Opened {
     fn fmt<W: fmt::Write>(&self, f: &mut fmt::Formatter<W>) -> fmt::Result {
@@ -40,21 +30,18 @@ impl Display for Opened {
     }
 }
 
-// The number of a refusal, or 0.
-pub fn number<T>(answer: &Result<T, Refusal>) -> u32 {
-    match answer {
-        Ok(_) => 0,
-        Err(refusal) => refusal.number(),
-    }
-}
-
 // The number of a refusal, or 0, and what the call gives. A refused call has zeros for it.
 #[derive(Clone, Copy)]
 pub struct Answer<T>(pub Result<T, Refusal>);
 
 impl<T: Copy + Default + Display> Display for Answer<T> {
     fn fmt<W: fmt::Write>(&self, f: &mut fmt::Formatter<W>) -> fmt::Result {
-        write!(f, "{} {}", number(&self.0), self.0.unwrap_or_default())
+        write!(
+            f,
+            "{} {}",
+            status_number(&self.0),
+            self.0.unwrap_or_default()
+        )
     }
 }
 

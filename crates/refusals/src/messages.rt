@@ -2,12 +2,13 @@
 ghost use Rattle.std.specs.Prelude.{◌≤◌};
 
 use crate::answers::{Answer, Digest, OnBuffer};
-use crate::{answers, samples, words};
+use crate::{samples, words};
 use text::hex::Hex;
+use tokens::answer::status_number;
 use tokens::strength::Strength;
 use tokens::{checksum, message};
 
-// The usage, and the number of octets.
+// Checksums that are refused. A case has its name, the usage and the number of octets.
 fn refused_checksums(rt: &impl Print) {
     let octets = samples::octets();
     let cases = [
@@ -22,7 +23,7 @@ fn refused_checksums(rt: &impl Print) {
     }
 }
 
-// The checksum of four octets, for these and for four others.
+// Tests the checksum of four octets against these and against four others.
 fn tested_checksums(rt: &impl Print) {
     let octets = samples::octets();
     let four = &octets[..4];
@@ -34,7 +35,7 @@ fn tested_checksums(rt: &impl Print) {
     ];
     for (name, data, sum) in cases {
         let answer = checksum::checksum_test(samples::KEY, 6, data, sum);
-        let _ = println!(rt; "checksum_test of {name}: {}", answers::number(&answer));
+        let _ = println!(rt; "checksum_test of {name}: {}", status_number(&answer));
     }
 }
 
@@ -54,7 +55,8 @@ fn decrypt(rt: &impl Print, name: &str, usage: u32, start: usize, len: usize) {
     let _ = println!(rt; "decrypt {name}: {answer}");
 }
 
-// The usage, the start and the length. An encrypted message has 24 octets more than the message, and the buffer has 32,802.
+// Messages that are refused. A case has its name, the usage, the start and the length. An encrypted message has 24 octets more than the
+// message, and the buffer has 32,802.
 fn refused_messages(rt: &impl Print) {
     let encryptions = [
         ("for usage 0", 0, 0, 76),

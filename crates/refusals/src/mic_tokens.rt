@@ -6,7 +6,7 @@ use tokens::context::Sender;
 use tokens::mic;
 use tokens::strength::Strength;
 
-// The data, and the start in a buffer of 40.
+// Writes that are refused. A case has its name, the data, and the start in a buffer of 40.
 fn refused_writes(rt: &impl Print) {
     let octets = samples::octets();
     let context = samples::context(Strength::Full, Sender::Initiator);
@@ -32,7 +32,7 @@ fn token_of_four() -> [u8; 40] {
     buf
 }
 
-// The sender, the data, the buffer, and the start and the length of the token in it.
+// Reads that are refused. A case has its name, the sender, the data, the buffer, and the start and the length of the token in it.
 fn refused_reads(rt: &impl Print) {
     let octets = samples::octets();
     let four = &octets[..4];

@@ -1,4 +1,4 @@
-// The words of a strength, a sender and a seal.
+// The words of a strength, a sender and a seal, as this program prints them.
 use tokens::context::Sender;
 use tokens::strength::Strength;
 

@@ -44,7 +44,8 @@ fn open(rt: &impl Print, name: &str, start: usize, len: usize) {
     let _ = println!(rt; "wrap_open {name}: {answer}");
 }
 
-// The start and the length. A token has 33 octets beside its message, and the buffer has 32,802.
+// Regions that are refused, each with its start and its length. A token has 33 octets beside its message, and the buffer has 32,802. The
+// calls stand one by one, since the fixed output has writes and reads in turn.
 fn refused_regions(rt: &impl Print) {
     write(rt, "of 32769", 0, 32769);
     open(rt, "of 32", 0, 32);

@@ -33,7 +33,7 @@ fn write_offsets(rt: &impl Print, stream: &[u8])
 fn write_stream(rt: &impl Print, key: &[u8]) {
     let mut stream = [0; 4112];
     let answer = whole::rc4(key, &mut stream);
-    let _ = println!(rt; "RFC 6229 {}: {}", Hex(key), answers::status(&answer));
+    let _ = println!(rt; "RFC 6229 {}: {}", Hex(key), answers::status(answer));
     write_offsets(rt, &stream);
 }
 

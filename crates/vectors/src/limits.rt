@@ -36,7 +36,7 @@ fn write_rc4_key(rt: &impl Print, n: usize)
     let answer = whole::rc4(&key[..n], &mut data);
     let _ = println!(rt;
         "rc4 with a key of {n}: {} {}",
-        answers::status(&answer),
+        answers::status(answer),
         Hex(&data)
     );
 }
@@ -45,7 +45,7 @@ fn write_rc4_key(rt: &impl Print, n: usize)
 fn write_rc4(rt: &impl Print, octets: &mut [u8])
     requires { 1 ≤ length octets.old }
 {
-    let status = answers::status(&whole::rc4(b"key", octets));
+    let status = answers::status(whole::rc4(b"key", octets));
     let last = octets.len() - 1;
     let _ = println!(rt;
         "rc4 of {}: {status} {:02x} md5: {}",

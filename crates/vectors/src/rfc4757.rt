@@ -41,18 +41,12 @@ const USAGES: [(&str, u32); 15] = [
 ];
 
 fn write_key(rt: &impl Print, name: &str, units: &[u16]) {
-    let key = match key::password_key(units) {
-        Ok(key) => key,
-        Err(_) => [0; 16],
-    };
+    let key = key::password_key(units).unwrap_or_default();
     let _ = println!(rt; "RFC 4757 2 {name}: {}", Hex(&key));
 }
 
 fn write_type(rt: &impl Print, name: &str, number: u32) {
-    let t = match Usage::try_from(number) {
-        Ok(usage) => usage.t(),
-        Err(_) => [0; 4],
-    };
+    let t = Usage::try_from(number).map_or([0; 4], Usage::t);
     let _ = println!(rt; "{name}: {number} {}", Hex(&t));
 }
 

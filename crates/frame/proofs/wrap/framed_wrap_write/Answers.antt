@@ -6,8 +6,8 @@ use lib.Dec.{leb}
 use lib.ListN.{length}
 use borrow.Author.Rules.{rules}
 use Rattle.tokens.proofs.Laws.{wrap_makes}
-use Rattle.tokens.proofs.Steps.{goes_on, stops, exits, buffer_refused, bounds, fits, not_refused}
-use Rattle.tokens.specs.Answer.{tested, map_ok}
+use Rattle.tokens.proofs.Steps.{goes_on, stops, exit_told, bounds, fits, not_refused}
+use Rattle.tokens.specs.Answer.{tested}
 use Rattle.tokens.specs.Message.{all_octets}
 use Rattle.tokens.specs.declared.answer.Refusal.TheVariants.{Region}
 use Rattle.frame.specs.Wrap as Spec
@@ -18,10 +18,8 @@ pub returns-in_err-length : goal.returns-in_err-length
 unfolding Spec.framed_wrap_writing
 returns-in_err-length c =
     let refused = stops _ _ _ c.length.ensures c.in_err-length.was in
-    record {
-      answer = exits _ _ c.from_residual.ensures.1 (ap (map_ok length) refused);
-      buffer = buffer_refused all_octets _ _ refused;
-    }
+    let told = exit_told length all_octets _ _ c.from_residual.ensures.1 refused in
+    record { answer = told.0; buffer = told.1 }
 
 pub overflow_add-token : goal.overflow_add-token
 overflow_add-token c = omega (arith, bounds c.in_ok-length.was 0 32768 c.args.len c.length.ensures)
@@ -38,10 +36,8 @@ returns-in_err-region c =
     let a = c.args in
     let region_tested = c.region.ensures ∙ ap (λ (w : ℕ). tested (leb (a.start + (w + (33 + a.len))) (length a.buf.now)) Region) c.width-before.ensures.0 in
     let refused = goes_on _ _ _ c.length.ensures c.in_ok-length.was ∙ stops _ _ _ region_tested c.in_err-region.was in
-    record {
-      answer = exits _ _ c.from_residual-in_err-region.ensures.1 (ap (map_ok length) refused);
-      buffer = buffer_refused all_octets _ _ refused;
-    }
+    let told = exit_told length all_octets _ _ c.from_residual-in_err-region.ensures.1 refused in
+    record { answer = told.0; buffer = told.1 }
 
 pub overflow_add-start : goal.overflow_add-start
 overflow_add-start c = let inside = fits c.in_ok-region.was (c.args.start + (c.width-before.result + (33 + c.args.len))) _ c.region.ensures in omega (arith, inside)

@@ -6,7 +6,7 @@ use lib.ListN.{length-take, length-drop}
 use Rattle.primitives.specs.Octets.{Octets}
 use Rattle.tokens.specs.Answer.{map_ok}
 use Rattle.tokens.specs.Message as Spec
-use Rattle.tokens.proofs.Steps.{goes_on, stops, exits, buffer_refused, bounds, fits, was_refused, named_stops}
+use Rattle.tokens.proofs.Steps.{goes_on, stops, exits, exit_told, bounds, fits, was_refused, named_stops}
 use Rattle.tokens.proofs.message.Exactly.{reads_exactly}
 use Rattle.tokens.proofs.message.Regions.{decrypted}
 use borrow.Author.Rules.{rules}
@@ -19,9 +19,8 @@ returns-in_err-length c =
     let a = c.args in
     let bytes : Octets a.buf.now = λ i. search rules in
     let refused = stops _ _ _ c.length.ensures c.in_err-length.was in
-    let answer = exits _ _ c.from_residual.ensures.1 (ap (map_ok Spec.message_length) refused) in
-    let buffer = buffer_refused Spec.plain _ _ refused in
-    record { answer = answer; buffer = buffer; exact = reads_exactly a.key a.strength a.usage a.buf.now a.start a.len bytes answer buffer }
+    let told = exit_told Spec.message_length Spec.plain _ _ c.from_residual.ensures.1 refused in
+    record { answer = told.0; buffer = told.1; exact = reads_exactly a.key a.strength a.usage a.buf.now a.start a.len bytes told.0 told.1 }
 
 pub returns-in_err-region : goal.returns-in_err-region
 unfolding Spec.decryption
@@ -29,9 +28,8 @@ returns-in_err-region c =
     let a = c.args in
     let bytes : Octets a.buf.now = λ i. search rules in
     let refused = goes_on _ _ _ c.length.ensures c.in_ok-length.was ∙ stops _ _ _ c.region.ensures c.in_err-region.was in
-    let answer = exits _ _ c.from_residual-in_err-region.ensures.1 (ap (map_ok Spec.message_length) refused) in
-    let buffer = buffer_refused Spec.plain _ _ refused in
-    record { answer = answer; buffer = buffer; exact = reads_exactly a.key a.strength a.usage a.buf.now a.start a.len bytes answer buffer }
+    let told = exit_told Spec.message_length Spec.plain _ _ c.from_residual-in_err-region.ensures.1 refused in
+    record { answer = told.0; buffer = told.1; exact = reads_exactly a.key a.strength a.usage a.buf.now a.start a.len bytes told.0 told.1 }
 
 pub returns-in_err-usage : goal.returns-in_err-usage
 unfolding Spec.decryption
@@ -41,9 +39,8 @@ returns-in_err-usage c =
     let refused = goes_on _ _ _ c.length.ensures c.in_ok-length.was
     ∙ goes_on _ _ _ c.region.ensures c.in_ok-region.was
     ∙ named_stops a.usage _ c.try_from.ensures c.in_err-usage.was in
-    let answer = exits _ _ c.from_residual-in_err-usage.ensures.1 (ap (map_ok Spec.message_length) refused) in
-    let buffer = buffer_refused Spec.plain _ _ refused in
-    record { answer = answer; buffer = buffer; exact = reads_exactly a.key a.strength a.usage a.buf.now a.start a.len bytes answer buffer }
+    let told = exit_told Spec.message_length Spec.plain _ _ c.from_residual-in_err-usage.ensures.1 refused in
+    record { answer = told.0; buffer = told.1; exact = reads_exactly a.key a.strength a.usage a.buf.now a.start a.len bytes told.0 told.1 }
 
 pub overflow_add-start : goal.overflow_add-start
 overflow_add-start c = let inside = fits c.in_ok-region.was (c.args.start + c.args.len) _ c.region.ensures in omega (arith, inside)

@@ -1,10 +1,10 @@
 -- The refusals of the header, the direction, the checksum and the pad, in their order, or the token opened.
-use mathlib.Core.Path.{◌≡◌, ap, ◌∙◌}
+use mathlib.Core.Path.{◌≡◌, ◌∙◌}
 use mathlib.Core.List.{◌++◌}
 use Prim.Native.Nat.{◌+◌}
 use lib.ListN.{length, length-append}
 use Rattle.tokens.specs.Wrap as Spec
-use Rattle.tokens.proofs.Steps.{exits, buffer_refused}
+use Rattle.tokens.proofs.Steps.{exit_told}
 use Rattle.tokens.proofs.wrap.Opening.{header_refused, number_refused, text_refused, text_opened}
 use borrow.Author.Rules.{rules}
 use native.Mathlib.Omega.{arith}
@@ -15,20 +15,16 @@ returns-in_err-sealed c =
     let a = c.args in
     let size : length a.front ≡ 24 = search rules in
     let refused = header_refused a.context a.front (a.confounder.now ++ a.body.now) size c.sealed_in.ensures c.in_err-sealed.was in
-    record {
-      answer = exits _ _ c.from_residual.ensures.1 (ap Spec.unwrapped_answer refused);
-      octets = buffer_refused Spec.plain _ _ refused;
-    }
+    let told = exit_told Spec.unwrapped Spec.plain _ _ c.from_residual.ensures.1 refused in
+    record { answer = told.0; octets = told.1 }
 
 pub returns-in_err-sequence : goal.returns-in_err-sequence
 returns-in_err-sequence c =
     let a = c.args in
     let size : length a.front ≡ 24 = search rules in
     let refused = number_refused a.context a.front (a.confounder.now ++ a.body.now) size c.sealed_in.ensures c.in_ok-sealed.was c.number_in.ensures c.in_err-sequence.was in
-    record {
-      answer = exits _ _ c.from_residual-in_err-sequence.ensures.1 (ap Spec.unwrapped_answer refused);
-      octets = buffer_refused Spec.plain _ _ refused;
-    }
+    let told = exit_told Spec.unwrapped Spec.plain _ _ c.from_residual-in_err-sequence.ensures.1 refused in
+    record { answer = told.0; octets = told.1 }
 
 pub returns-in-Ok : goal.returns-in-Ok
 returns-in-Ok c =

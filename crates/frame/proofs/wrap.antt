@@ -1,2 +1,3 @@
 -- The laws of framed Wrap tokens.
 mod Exactly
+mod Writing

@@ -48,8 +48,10 @@ exit_is (Err x) given = ap Err given
 pub exits : {A : Type 0} {q : Refusal} (r o : Result A Refusal) → IsErrAnd r (λ e. e ≡ q) → o ≡ Err q → r ≡ o
 exits r o given e = exit_is r given ∙ sym e
 
-pub buffer_refused : {A : Type 0} (octets : A → List ℕ) (start : ℕ) (buf : List ℕ) {o : Result A Refusal} {q : Refusal} → o ≡ Err q → buf ≡ buffer_after octets start buf o
-buffer_refused octets start buf e = rw e
+-- by a call that answers f of its result and places its octets in a buffer
+pub exit_told : {A B : Type 0} (f : A → B) (octets : A → List ℕ) (start : ℕ) (buf : List ℕ) {r : Result B Refusal} {o : Result A Refusal} {q : Refusal} → IsErrAnd r (λ e. e ≡ q) → o ≡ Err q
+    → (r ≡ map_ok f o) × (buf ≡ buffer_after octets start buf o)
+exit_told f octets start buf {r} {o} given e = (exits r (map_ok f o) given (ap (map_ok f) e), rw e)
 
 -- ---- What is answered where it ends
 

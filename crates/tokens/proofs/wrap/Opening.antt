@@ -71,47 +71,45 @@ module _ (context : Context) (front text : List ℕ) (size : length front ≡ 24
   unfolding sealed_in
   sealed_alone = rw (header_alone front text size)
 
-  pub header_refused : {q : Refusal} → sealed_in front ≡ Err q → opened context (front ++ text) ≡ Err q
+  pub header_refused : {header : Result Bool Refusal} {q : Refusal} → header ≡ sealed_in front → header ≡ Err q → opened context (front ++ text) ≡ Err q
   unfolding opened
-  header_refused e = then_stops _ (sealed_alone ∙ e)
+  header_refused e d = then_stops _ (sealed_alone ∙ sym e ∙ d)
 
-  module _ {sealed : Bool} (is-sealed : sealed_in front ≡ Ok sealed) where
-    pub number_refused : {q : Refusal} → number_in context front ≡ Err q → opened context (front ++ text) ≡ Err q
+  module _ {header : Result Bool Refusal} {sealed : Bool} (header-is : header ≡ sealed_in front) (is-sealed : header ≡ Ok sealed) where
+    pub number_refused : {number : Result ℕ Refusal} {q : Refusal} → number ≡ number_in context front → number ≡ Err q → opened context (front ++ text) ≡ Err q
     unfolding opened
-    number_refused e = then_on _ (sealed_alone ∙ is-sealed) ∙ then_stops _ (number_alone front text size context ∙ e)
+    number_refused e d = then_on _ (sealed_alone ∙ sym header-is ∙ is-sealed) ∙ then_stops _ (number_alone front text size context ∙ sym e ∙ d)
 
-    module _ {n : ℕ} (is_number : number_in context front ≡ Ok n) {out : List ℕ} (out_is : out ≡ under_seal context sealed n text) where
+    module _ {number : Result ℕ Refusal} {n : ℕ} (number-is : number ≡ number_in context front) (is_number : number ≡ Ok n) {out : List ℕ} (out_is : out ≡ under_seal context sealed n text) where
       opened_is : opened context (front ++ text) ≡ and_then (verified context sealed (checksum_in front) out) (λ (l : List ℕ). Ok (apart n sealed l))
       unfolding opened
       opened_is =
-          then_on _ (sealed_alone ∙ is-sealed)
-          ∙ then_on _ (number_alone front text size context ∙ is_number)
+          then_on _ (sealed_alone ∙ sym header-is ∙ is-sealed)
+          ∙ then_on _ (number_alone front text size context ∙ sym number-is ∙ is_number)
           ∙ rw (checksum_alone front text size, drop_at front text 24 size, ← out_is)
 
       out_length : length out ≡ length text
       out_length = ap length out_is ∙ seal_length context sealed n text
 
-      module _ {s : Result ⊤ Refusal} (s-is : s ≡ status_answer (verified context sealed (checksum_in front) out)) where
-        pub text_refused : {q : Refusal} → s ≡ Err q → opened context (front ++ text) ≡ Err q
-        text_refused d = opened_is ∙ then_stops _ (was_refused _ (sym s-is ∙ d))
+      -- where the text that is no longer under the seal is verified, and so is answered, or is not
+      module _ {sum : List ℕ} {s : Result ⊤ Refusal} (sum-is : sum ≡ checksum_in front) (s-is : s ≡ status_answer (verified context sealed sum out)) where
+        is_verified : s ≡ status_answer (verified context sealed (checksum_in front) out)
+        is_verified = s-is ∙ ap (λ (l : List ℕ). status_answer (verified context sealed l out)) sum-is
 
         -- run under the seal again, what was refused is back
-        pub text_restored : {q : Refusal} {back : List ℕ} → s ≡ Err q → back ≡ under_seal context sealed n out → back ≡ buffer_after plain 0 text (opened context (front ++ text))
-        text_restored {q} {back} d e = rw (text_refused d) (e ∙ ap (under_seal context sealed n) out_is ∙ seal_twice context sealed n text)
+        pub text_refused : {q : Refusal} {back : List ℕ} → s ≡ Err q → back ≡ under_seal context sealed n out
+            → (Err q ≡ unwrapped_answer (opened context (front ++ text))) × (back ≡ buffer_after plain 0 text (opened context (front ++ text)))
+        text_refused d e =
+            let refused = opened_is ∙ then_stops _ (was_refused _ (sym is_verified ∙ d)) in
+            (ap unwrapped_answer (sym refused), rw refused (e ∙ ap (under_seal context sealed n) out_is ∙ seal_twice context sealed n text))
 
-        module _ (d : s ≡ Ok tt) where
-          text_opened : opened context (front ++ text) ≡ Ok (apart n sealed out)
-          text_opened = opened_is ∙ then_on _ (verified_text context sealed (checksum_in front) out (sym s-is ∙ d)).0
-
-          pub opened_answer : (l : ℕ) → length text ≡ 9 + l → Ok (record { sequence = n; sealed = sealed; length = l }) ≡ unwrapped_answer (opened context (front ++ text))
-          opened_answer l e =
-              let found : length (take (length out - 9) (drop 8 out)) ≡ l = simp (length-take, length-drop) (omega (arith, out_length)) in
-              rw (text_opened, found)
-
-          pub opened_octets : 9 ≤ length text → out ≡ buffer_after plain 0 text (opened context (front ++ text))
-          opened_octets least =
-              let padded = (verified_text context sealed (checksum_in front) out (sym s-is ∙ d)).1 in
-              rw (text_opened, plain_apart n sealed out (omega (arith, out_length)) padded) (sym (placed_all text out (sym out_length)))
+        pub text_opened : s ≡ Ok tt → (l : ℕ) → length text ≡ 9 + l
+            → (Ok (record { sequence = n; sealed = sealed; length = l }) ≡ unwrapped_answer (opened context (front ++ text))) × (out ≡ buffer_after plain 0 text (opened context (front ++ text)))
+        text_opened d l e =
+            let found = verified_text context sealed (checksum_in front) out (sym is_verified ∙ d) in
+            let done : opened context (front ++ text) ≡ Ok (apart n sealed out) = opened_is ∙ then_on _ found.0 in
+            let size : length (take (length out - 9) (drop 8 out)) ≡ l = simp (length-take, length-drop) (omega (arith, out_length)) in
+            (rw (done, size), rw (done, plain_apart n sealed out (omega (arith, out_length)) found.1) (sym (placed_all text out (sym out_length))))
 
 -- ---- Writing
 

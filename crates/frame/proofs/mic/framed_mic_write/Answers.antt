@@ -6,8 +6,8 @@ use lib.Dec.{leb}
 use lib.ListN.{length}
 use Rattle.std.specs.Prelude.{Ok}
 use Rattle.tokens.proofs.Laws.{mic_length_lem, mic_makes}
-use Rattle.tokens.proofs.Steps.{goes_on, stops, exits, buffer_refused, bounds, fits, not_refused}
-use Rattle.tokens.specs.Answer.{tested, map_ok}
+use Rattle.tokens.proofs.Steps.{goes_on, stops, exit_told, bounds, fits, not_refused}
+use Rattle.tokens.specs.Answer.{tested}
 use Rattle.tokens.specs.Limits.{buffer_after}
 use Rattle.tokens.specs.Message.{all_octets}
 use Rattle.tokens.specs.Mic.{mic_token}
@@ -21,10 +21,8 @@ pub returns-in_err-length : goal.returns-in_err-length
 unfolding Spec.framed_mic_writing
 returns-in_err-length c =
     let refused = stops _ _ _ c.length.ensures c.in_err-length.was in
-    record {
-      answer = exits _ _ c.from_residual.ensures.1 (ap (map_ok length) refused);
-      buffer = buffer_refused all_octets _ _ refused;
-    }
+    let told = exit_told length all_octets _ _ c.from_residual.ensures.1 refused in
+    record { answer = told.0; buffer = told.1 }
 
 pub overflow_add-total : goal.overflow_add-total
 overflow_add-total c = omega arith
@@ -35,10 +33,8 @@ returns-in_err-region c =
     let a = c.args in
     let region_tested = c.region.ensures ∙ ap (λ (w : ℕ). tested (leb (a.start + (w + 24)) (length a.buf.now)) Region) c.width-before.ensures.0 in
     let refused = goes_on _ _ _ c.length.ensures c.in_ok-length.was ∙ stops _ _ _ region_tested c.in_err-region.was in
-    record {
-      answer = exits _ _ c.from_residual-in_err-region.ensures.1 (ap (map_ok length) refused);
-      buffer = buffer_refused all_octets _ _ refused;
-    }
+    let told = exit_told length all_octets _ _ c.from_residual-in_err-region.ensures.1 refused in
+    record { answer = told.0; buffer = told.1 }
 
 pub overflow_add-start : goal.overflow_add-start
 overflow_add-start c = let inside = fits c.in_ok-region.was (c.args.start + (c.width-before.result + 24)) _ c.region.ensures in omega (arith, inside)

@@ -1,5 +1,5 @@
 -- The test of the primitives, and its error as a refusal.
-use Rattle.std.proofs.Common.{◌≡◌, Bool, true, false, cond, refl, ap, ◌∙◌, rules}
+use Rattle.std.proofs.Common.{◌≡◌, Bool, true, false, cond, ap}
 use Rattle.std.specs.Prelude.{⊤, Result, Ok, Err, MatchResult, IsErrAnd}
 use Rattle.primitives.specs.Limits.{length_error}
 use Rattle.tokens.specs.Answer.{tested}

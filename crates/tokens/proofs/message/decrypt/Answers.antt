@@ -1,19 +1,14 @@
 -- The refusals of the length, the region, the usage and the checksum, in their order, or the region read; and from that, that reading
 -- succeeds exactly on what the rule writes.
-use mathlib.Core.Path.{◌≡◌, sym, ◌∙◌, ap}
-use Prim.Native.Nat.{◌+◌, ◌-◌}
+use mathlib.Core.Path.{sym, ◌∙◌, ap}
+use Prim.Native.Nat.{◌+◌}
 use lib.ListN.{length-take, length-drop}
-use Rattle.std.specs.Prelude.{Ok}
-use mathlib.Core.List.{◌++◌}
-use lib.ListN.{take, drop}
 use Rattle.primitives.specs.Octets.{Octets}
 use Rattle.tokens.specs.Answer.{map_ok}
-use Rattle.tokens.specs.Limits.{region, buffer_after}
 use Rattle.tokens.specs.Message as Spec
-use Rattle.tokens.specs.Usage.{type_octets}
-use Rattle.tokens.proofs.Steps.{goes_on, stops, exits, buffer_refused, bounds, fits, was_refused, named_stops, named_on}
+use Rattle.tokens.proofs.Steps.{goes_on, stops, exits, exit_told, bounds, fits, was_refused, named_stops}
 use Rattle.tokens.proofs.message.Exactly.{reads_exactly}
-use Rattle.tokens.proofs.message.Regions.{read_status, read_buffer, read_length}
+use Rattle.tokens.proofs.message.Regions.{decrypted}
 use borrow.Author.Rules.{rules}
 use native.Mathlib.Omega.{arith}
 use Rattle.tokens.proofs.message.decrypt.Goals as goal
@@ -24,9 +19,8 @@ returns-in_err-length c =
     let a = c.args in
     let bytes : Octets a.buf.now = λ i. search rules in
     let refused = stops _ _ _ c.length.ensures c.in_err-length.was in
-    let answer = exits _ _ c.from_residual.ensures.1 (ap (map_ok Spec.message_length) refused) in
-    let buffer = buffer_refused Spec.plain _ _ refused in
-    record { answer = answer; buffer = buffer; exact = reads_exactly a.key a.strength a.usage a.buf.now a.start a.len bytes answer buffer }
+    let told = exit_told Spec.message_length Spec.plain _ _ c.from_residual.ensures.1 refused in
+    record { answer = told.0; buffer = told.1; exact = reads_exactly a.key a.strength a.usage a.buf.now a.start a.len bytes told.0 told.1 }
 
 pub returns-in_err-region : goal.returns-in_err-region
 unfolding Spec.decryption
@@ -34,9 +28,8 @@ returns-in_err-region c =
     let a = c.args in
     let bytes : Octets a.buf.now = λ i. search rules in
     let refused = goes_on _ _ _ c.length.ensures c.in_ok-length.was ∙ stops _ _ _ c.region.ensures c.in_err-region.was in
-    let answer = exits _ _ c.from_residual-in_err-region.ensures.1 (ap (map_ok Spec.message_length) refused) in
-    let buffer = buffer_refused Spec.plain _ _ refused in
-    record { answer = answer; buffer = buffer; exact = reads_exactly a.key a.strength a.usage a.buf.now a.start a.len bytes answer buffer }
+    let told = exit_told Spec.message_length Spec.plain _ _ c.from_residual-in_err-region.ensures.1 refused in
+    record { answer = told.0; buffer = told.1; exact = reads_exactly a.key a.strength a.usage a.buf.now a.start a.len bytes told.0 told.1 }
 
 pub returns-in_err-usage : goal.returns-in_err-usage
 unfolding Spec.decryption
@@ -46,9 +39,8 @@ returns-in_err-usage c =
     let refused = goes_on _ _ _ c.length.ensures c.in_ok-length.was
     ∙ goes_on _ _ _ c.region.ensures c.in_ok-region.was
     ∙ named_stops a.usage _ c.try_from.ensures c.in_err-usage.was in
-    let answer = exits _ _ c.from_residual-in_err-usage.ensures.1 (ap (map_ok Spec.message_length) refused) in
-    let buffer = buffer_refused Spec.plain _ _ refused in
-    record { answer = answer; buffer = buffer; exact = reads_exactly a.key a.strength a.usage a.buf.now a.start a.len bytes answer buffer }
+    let told = exit_told Spec.message_length Spec.plain _ _ c.from_residual-in_err-usage.ensures.1 refused in
+    record { answer = told.0; buffer = told.1; exact = reads_exactly a.key a.strength a.usage a.buf.now a.start a.len bytes told.0 told.1 }
 
 pub overflow_add-start : goal.overflow_add-start
 overflow_add-start c = let inside = fits c.in_ok-region.was (c.args.start + c.args.len) _ c.region.ensures in omega (arith, inside)
@@ -63,43 +55,20 @@ read-requires c =
     simp (length-take, length-drop) (omega (arith, inside, sized.0))
 
 pub returns-in_err-read : goal.returns-in_err-read
-unfolding Spec.decryption
 returns-in_err-read c =
     let a = c.args in
     let bytes : Octets a.buf.now = λ i. search rules in
-    let sized = bounds c.in_ok-length.was 24 32792 a.len c.length.ensures in
-    let inside = fits c.in_ok-region.was (a.start + a.len) _ c.region.ensures in
-    let named = named_on a.usage _ c.try_from.ensures c.in_ok-usage.was in
-    let passed : Spec.decryption a.key a.strength a.usage a.buf.now a.start a.len ≡ Spec.opened a.key a.strength (type_octets a.usage) (region a.start a.len a.buf.now)
-    = goes_on _ _ _ c.length.ensures c.in_ok-length.was ∙ goes_on _ _ _ c.region.ensures c.in_ok-region.was ∙ named.0 in
-    let k = a.start + a.len - a.start in
-    let part : k ≡ a.len = omega arith in
-    let status = read_status a.key a.strength (type_octets a.usage) a.buf.now a.start a.len inside sized.0 k _ part named.1 c.read.ensures.status in
-    let buffer : take a.start a.buf.now ++ (c.read.new.region ++ drop k (drop a.start a.buf.now))
-    ≡ buffer_after Spec.plain (a.start + 16) a.buf.now (Spec.decryption a.key a.strength a.usage a.buf.now a.start a.len)
-    = rw passed (read_buffer a.key a.strength (type_octets a.usage) a.buf.now a.start a.len inside sized.0 k _ part named.1 c.read.ensures.octets) in
-    let answer = exits _ _ c.from_residual-in_err-read.ensures.1 (ap (map_ok Spec.message_length) (passed ∙ was_refused _ (sym status ∙ c.in_err-read.was))) in
-    record { answer = answer; buffer = buffer; exact = reads_exactly a.key a.strength a.usage a.buf.now a.start a.len bytes answer buffer }
+    let read = decrypted a.key a.strength a.usage a.buf.now a.start a.len c.length.ensures c.in_ok-length.was c.region.ensures c.in_ok-region.was c.try_from.ensures c.in_ok-usage.was c.read.ensures.status c.read.ensures.octets in
+    let answer = exits _ _ c.from_residual-in_err-read.ensures.1 (ap (map_ok Spec.message_length) (was_refused _ (sym read.status ∙ c.in_err-read.was))) in
+    record { answer = answer; buffer = read.buffer; exact = reads_exactly a.key a.strength a.usage a.buf.now a.start a.len bytes answer read.buffer }
 
 pub overflow_sub-result : goal.overflow_sub-result
 overflow_sub-result c = let sized = bounds c.in_ok-length.was 24 32792 c.args.len c.length.ensures in omega (arith, sized.0)
 
 pub returns : goal.returns
-unfolding Spec.decryption
 returns c =
     let a = c.args in
     let bytes : Octets a.buf.now = λ i. search rules in
-    let sized = bounds c.in_ok-length.was 24 32792 a.len c.length.ensures in
-    let inside = fits c.in_ok-region.was (a.start + a.len) _ c.region.ensures in
-    let named = named_on a.usage _ c.try_from.ensures c.in_ok-usage.was in
-    let passed : Spec.decryption a.key a.strength a.usage a.buf.now a.start a.len ≡ Spec.opened a.key a.strength (type_octets a.usage) (region a.start a.len a.buf.now)
-    = goes_on _ _ _ c.length.ensures c.in_ok-length.was ∙ goes_on _ _ _ c.region.ensures c.in_ok-region.was ∙ named.0 in
-    let k = a.start + a.len - a.start in
-    let part : k ≡ a.len = omega arith in
-    let status = read_status a.key a.strength (type_octets a.usage) a.buf.now a.start a.len inside sized.0 k _ part named.1 c.read.ensures.status in
-    let buffer : take a.start a.buf.now ++ (c.read.new.region ++ drop k (drop a.start a.buf.now))
-    ≡ buffer_after Spec.plain (a.start + 16) a.buf.now (Spec.decryption a.key a.strength a.usage a.buf.now a.start a.len)
-    = rw passed (read_buffer a.key a.strength (type_octets a.usage) a.buf.now a.start a.len inside sized.0 k _ part named.1 c.read.ensures.octets) in
-    let answer : Ok (a.len - 24) ≡ map_ok Spec.message_length (Spec.decryption a.key a.strength a.usage a.buf.now a.start a.len)
-    = rw passed (read_length a.key a.strength (type_octets a.usage) a.buf.now a.start a.len inside sized.0 status c.in_ok-read.was) in
-    record { answer = answer; buffer = buffer; exact = reads_exactly a.key a.strength a.usage a.buf.now a.start a.len bytes answer buffer }
+    let read = decrypted a.key a.strength a.usage a.buf.now a.start a.len c.length.ensures c.in_ok-length.was c.region.ensures c.in_ok-region.was c.try_from.ensures c.in_ok-usage.was c.read.ensures.status c.read.ensures.octets in
+    let answer = read.length_is c.in_ok-read.was in
+    record { answer = answer; buffer = read.buffer; exact = reads_exactly a.key a.strength a.usage a.buf.now a.start a.len bytes answer read.buffer }

@@ -4,12 +4,11 @@ use mathlib.Core.List.{List}
 use Prim.Native.Nat.{ℕ, ◌+◌}
 use lib.ListN.{length}
 use Rattle.std.specs.Prelude.{Ok}
-use Rattle.tokens.specs.Answer.{map_ok}
 use Rattle.tokens.specs.Limits.{placed}
 use Rattle.tokens.specs.Message.{all_octets}
 use Rattle.tokens.specs.Mic as Spec
 use Rattle.tokens.specs.Token.{front}
-use Rattle.tokens.proofs.Steps.{goes_on, stops, exits, buffer_refused, fits}
+use Rattle.tokens.proofs.Steps.{goes_on, stops, exit_told, fits}
 use Rattle.tokens.proofs.Lengths.{mic_length_lem}
 use borrow.Author.Rules.{rules}
 use native.Mathlib.Omega.{arith}
@@ -19,19 +18,15 @@ pub returns-in_err-length : goal.returns-in_err-length
 unfolding Spec.mic_writing
 returns-in_err-length c =
     let refused = stops _ _ _ c.length.ensures c.in_err-length.was in
-    record {
-      answer = exits _ _ c.from_residual.ensures.1 (ap (map_ok length) refused);
-      buffer = buffer_refused all_octets _ _ refused;
-    }
+    let told = exit_told length all_octets _ _ c.from_residual.ensures.1 refused in
+    record { answer = told.0; buffer = told.1 }
 
 pub returns-in_err-region : goal.returns-in_err-region
 unfolding Spec.mic_writing
 returns-in_err-region c =
     let refused = goes_on _ _ _ c.length.ensures c.in_ok-length.was ∙ stops _ _ _ c.region.ensures c.in_err-region.was in
-    record {
-      answer = exits _ _ c.from_residual-in_err-region.ensures.1 (ap (map_ok length) refused);
-      buffer = buffer_refused all_octets _ _ refused;
-    }
+    let told = exit_told length all_octets _ _ c.from_residual-in_err-region.ensures.1 refused in
+    record { answer = told.0; buffer = told.1 }
 
 pub place-requires : goal.place-requires
 place-requires c =

@@ -1,13 +1,13 @@
 -- The refusals of the length and the region, in their order, or the region opened; and from that, that opening succeeds exactly on
 -- what the rule writes.
-use mathlib.Core.Path.{◌≡◌, ◌∙◌, ap}
+use mathlib.Core.Path.{◌≡◌, ◌∙◌}
 use Prim.Native.Nat.{◌+◌, ◌-◌}
 use mathlib.Core.List.{◌++◌}
 use lib.ListN.{take, drop, length-take, length-drop}
 use Rattle.primitives.specs.Octets.{Octets}
 use Rattle.tokens.specs.Limits.{region, buffer_after}
 use Rattle.tokens.specs.Wrap as Spec
-use Rattle.tokens.proofs.Steps.{goes_on, stops, exits, buffer_refused, bounds, fits}
+use Rattle.tokens.proofs.Steps.{goes_on, stops, exit_told, bounds, fits}
 use Rattle.tokens.proofs.wrap.Exactly.{opens_exactly}
 use Rattle.tokens.proofs.wrap.Regions.{opened_answer, opened_buffer_lem}
 use borrow.Author.Rules.{rules}
@@ -20,9 +20,8 @@ returns-in_err-length c =
     let a = c.args in
     let bytes : Octets a.buf.now = λ i. search rules in
     let refused = stops _ _ _ c.length.ensures c.in_err-length.was in
-    let answer = exits _ _ c.from_residual.ensures.1 (ap Spec.unwrapped_answer refused) in
-    let buffer = buffer_refused Spec.plain _ _ refused in
-    record { answer = answer; buffer = buffer; exact = opens_exactly a.context a.buf.now a.start a.len bytes answer buffer }
+    let told = exit_told Spec.unwrapped Spec.plain _ _ c.from_residual.ensures.1 refused in
+    record { answer = told.0; buffer = told.1; exact = opens_exactly a.context a.buf.now a.start a.len bytes told.0 told.1 }
 
 pub returns-in_err-region : goal.returns-in_err-region
 unfolding Spec.wrap_opening
@@ -30,9 +29,8 @@ returns-in_err-region c =
     let a = c.args in
     let bytes : Octets a.buf.now = λ i. search rules in
     let refused = goes_on _ _ _ c.length.ensures c.in_ok-length.was ∙ stops _ _ _ c.region.ensures c.in_err-region.was in
-    let answer = exits _ _ c.from_residual-in_err-region.ensures.1 (ap Spec.unwrapped_answer refused) in
-    let buffer = buffer_refused Spec.plain _ _ refused in
-    record { answer = answer; buffer = buffer; exact = opens_exactly a.context a.buf.now a.start a.len bytes answer buffer }
+    let told = exit_told Spec.unwrapped Spec.plain _ _ c.from_residual-in_err-region.ensures.1 refused in
+    record { answer = told.0; buffer = told.1; exact = opens_exactly a.context a.buf.now a.start a.len bytes told.0 told.1 }
 
 pub overflow_add-start : goal.overflow_add-start
 overflow_add-start c = let inside = fits c.in_ok-region.was (c.args.start + c.args.len) _ c.region.ensures in omega (arith, inside)

@@ -1,13 +1,12 @@
 -- The refusals of the length and the region, in their order, or the region written.
-use mathlib.Core.Path.{◌≡◌, ◌∙◌, ap}
+use mathlib.Core.Path.{◌≡◌, ◌∙◌}
 use Prim.Native.Nat.{◌+◌, ◌-◌}
 use lib.ListN.{length, length-take, length-drop}
 use Rattle.std.specs.Prelude.{Ok}
-use Rattle.tokens.specs.Answer.{map_ok}
 use Rattle.tokens.specs.Limits.{region}
 use Rattle.tokens.specs.Message.{all_octets}
 use Rattle.tokens.specs.Wrap as Spec
-use Rattle.tokens.proofs.Steps.{goes_on, stops, exits, buffer_refused, bounds, fits}
+use Rattle.tokens.proofs.Steps.{goes_on, stops, exit_told, bounds, fits}
 use Rattle.tokens.proofs.wrap.Regions.{written_length, written_buffer}
 use borrow.Author.Rules.{rules}
 use native.Mathlib.Omega.{arith}
@@ -17,10 +16,8 @@ pub returns-in_err-length : goal.returns-in_err-length
 unfolding Spec.wrap_writing
 returns-in_err-length c =
     let refused = stops _ _ _ c.length.ensures c.in_err-length.was in
-    record {
-      answer = exits _ _ c.from_residual.ensures.1 (ap (map_ok length) refused);
-      buffer = buffer_refused all_octets _ _ refused;
-    }
+    let told = exit_told length all_octets _ _ c.from_residual.ensures.1 refused in
+    record { answer = told.0; buffer = told.1 }
 
 pub overflow_add-total : goal.overflow_add-total
 overflow_add-total c = omega (arith, bounds c.in_ok-length.was 0 32768 c.args.len c.length.ensures)
@@ -29,10 +26,8 @@ pub returns-in_err-region : goal.returns-in_err-region
 unfolding Spec.wrap_writing
 returns-in_err-region c =
     let refused = goes_on _ _ _ c.length.ensures c.in_ok-length.was ∙ stops _ _ _ c.region.ensures c.in_err-region.was in
-    record {
-      answer = exits _ _ c.from_residual-in_err-region.ensures.1 (ap (map_ok length) refused);
-      buffer = buffer_refused all_octets _ _ refused;
-    }
+    let told = exit_told length all_octets _ _ c.from_residual-in_err-region.ensures.1 refused in
+    record { answer = told.0; buffer = told.1 }
 
 pub overflow_add-region : goal.overflow_add-region
 overflow_add-region c = let inside = fits c.in_ok-region.was (c.args.start + (33 + c.args.len)) _ c.region.ensures in omega (arith, inside)

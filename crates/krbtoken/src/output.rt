@@ -46,8 +46,8 @@ impl fmt::Display for StatusWords {
     }
 }
 
-// The octets of a region that a call of the library answered, so the region lies inside the buffer. The proof of that would repeat the
-// lengths of each call here, so the bounds are tested in its place.
+// The octets of a region that a call of the library answered. It lies inside the buffer, but the check does not prove that by itself from
+// the contracts of the calls, so the bounds are tested here.
 pub fn part(buf: &[u8], start: usize, n: usize) -> Result<&[u8], Refusal> {
     buf.get(start..)
         .and_then(|after| after.get(..n))

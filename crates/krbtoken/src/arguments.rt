@@ -1,4 +1,4 @@
-// The words of the command line, one after the other. A word that is wrong is never repeated in what is told of it, since it may be a key.
+// The words of the command line, one after the other. An error never repeats the word that is wrong, since it may be a key.
 ghost use Rattle.std.specs.Prelude.{◌≤◌, length};
 
 use crate::failure::WrongUse;
@@ -49,7 +49,7 @@ impl Arguments {
         &buf[..length]
     }
 
-    // What the next word means, or what is told if it means nothing.
+    // What the next word means, or the error if it means nothing.
     fn meaning<T, F: Fn(&[u8]) -> Option<T>>(
         &mut self,
         meaning_of: F,
@@ -65,7 +65,7 @@ impl Arguments {
         !matches!(self.rt.arg(at, &mut []), Err(FillError::NotPresent))
     }
 
-    // How many words are left.
+    // How many words are left. std counts the words of the command line only in `env::args`, which needs the heap.
     fn left(&self) -> usize {
         (0..usize::MAX)
             .find(|n| !self.is_there(self.next.saturating_add(*n)))
@@ -168,8 +168,8 @@ impl Arguments {
     pub fn key(&mut self) -> Result<[u8; 16], WrongUse> {
         let mut file = self.file().map_err(|error| WrongUse::Io(NO_KEY, error))?;
         let mut buf = [0; 64];
-        let length = input::read(&mut file, &mut buf, WRONG_KEY, NO_KEY)?;
-        hex::decode(input::without_newline(&buf[..length])).ok_or(WrongUse::Input(WRONG_KEY))
+        let text = input::read(&mut file, &mut buf, WRONG_KEY, NO_KEY)?;
+        hex::decode(input::without_newline(text)).ok_or(WrongUse::Input(WRONG_KEY))
     }
 
     // The key, the strength and the sender.

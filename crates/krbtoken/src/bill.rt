@@ -20,7 +20,8 @@ use tokens::context::Context;
 // Octets of four framed tokens of the greatest length.
 const BUFFER: usize = 131264;
 
-// What is held of a capture: the octets from `at` to `end` of a buffer, and whether the capture ends after them.
+// What is held of a capture: the octets from `at` to `end` of a buffer, and whether the capture ends after them. The program has no heap,
+// so the buffer has a fixed length.
 #[derive(Drop)]
 struct Capture {
     buf: [u8; BUFFER],
@@ -132,8 +133,7 @@ impl Billing {
         Err(Failure::Faulty)
     }
 
-    // Bills standard input. A proved loop has to end, and nothing says that a capture does: it takes at most as many turns as no capture
-    // uses up.
+    // Bills standard input. A capture may have any length, but a proved loop must end, so the number of turns has a limit. No run reaches it.
     fn run(
         &mut self,
         rt: HostRuntime,

@@ -1,12 +1,21 @@
 // Why a run ends without its result, how that is told, and the status of the run.
 use crate::help;
 use crate::output::Refused;
+use std::error::Error;
 use std::fmt::Write;
 use std::{fmt, io};
 use text::words::Verb;
 use tokens::answer::Refusal;
 
-#[derive(Clone, Copy)]
+// The status of a run.
+#[derive(Clone, Copy, Debug, PartialEq, Eq)]
+pub enum Exit {
+    Done = 0,
+    Refused = 1,
+    WrongUse = 2,
+}
+
+#[derive(Clone, Copy, Debug)]
 pub enum Failure {
     // The library refused. It is told on standard output.
     Refused(Refusal),
@@ -16,7 +25,7 @@ pub enum Failure {
     WrongUse(WrongUse),
 }
 
-#[derive(Clone, Copy)]
+#[derive(Clone, Copy, Debug)]
 pub enum WrongUse {
     // What is wrong and what was expected.
     Input(&'static str),
@@ -38,14 +47,14 @@ impl From<WrongUse> for Failure {
     }
 }
 
-// Where `?` passes up an error of input and output, it is standard output that can't be written.
+// `?` is given an `io::Error` only by writes to standard output. An error of reading becomes a `WrongUse` where it is found.
 impl From<io::Error> for Failure {
     fn from(error: io::Error) -> Failure {
-        Failure::WrongUse(unwritten(error))
+        Failure::WrongUse(output_error(error))
     }
 }
 
-fn unwritten(error: io::Error) -> WrongUse {
+fn output_error(error: io::Error) -> WrongUse {
     WrongUse::Io("standard output can't be written", error)
 }
 
@@ -63,13 +72,15 @@ impl fmt::Display for WrongUse {
     }
 }
 
+impl Error for WrongUse {}
+
 // The system's words for an error. After them `io::Error` has their number, which is left out.
 #[derive(Clone, Copy)]
 struct Reason(io::Error);
 
 impl fmt::Display for Reason {
     fn fmt<W: fmt::Write>(&self, f: &mut fmt::Formatter<W>) -> fmt::Result {
-        let mut words = BeforeNumber {
+        let mut words = WithoutNumber {
             to: f,
             ended: false,
         };
@@ -77,14 +88,14 @@ impl fmt::Display for Reason {
     }
 }
 
-// Passes a text on up to the number of an error.
+// Writes the text of an error without the number at its end.
 #[derive(Drop)]
-struct BeforeNumber<'a, W> {
+struct WithoutNumber<'a, W> {
     to: &'a mut W,
     ended: bool,
 }
 
-impl<W: fmt::Write> fmt::Write for BeforeNumber<'_, W> {
+impl<W: fmt::Write> fmt::Write for WithoutNumber<'_, W> {
     fn write_str(&mut self, text: &str) -> fmt::Result {
         if self.ended {
             return Ok(());
@@ -99,18 +110,17 @@ impl<W: fmt::Write> fmt::Write for BeforeNumber<'_, W> {
     }
 }
 
-// Tells how a run ended, and returns its status: 0 if it is done, 1 if something was refused, and 2 for wrong use. If standard error
-// can't be written, there is nobody left to tell.
-pub fn told(rt: HostRuntime, ended: Result<(), Failure>) -> u8 {
+// Writes why a run ended, and returns its status. An error of writing to standard error is ignored: there is nowhere left to write it.
+pub fn report(rt: HostRuntime, ended: Result<(), Failure>) -> Exit {
     let wrong = match ended {
-        Ok(()) => return 0,
-        Err(Failure::Faulty) => return 1,
+        Ok(()) => return Exit::Done,
+        Err(Failure::Faulty) => return Exit::Refused,
         Err(Failure::Refused(refusal)) => match println!(rt; "{}", Refused(refusal)) {
-            Ok(()) => return 1,
-            Err(error) => unwritten(error),
+            Ok(()) => return Exit::Refused,
+            Err(error) => output_error(error),
         },
         Err(Failure::WrongUse(wrong)) => wrong,
     };
     let _ = eprintln!(rt; "krbtoken: {wrong}");
-    2
+    Exit::WrongUse
 }

@@ -13,15 +13,16 @@ pub struct Parts {
     pub sealed: bool,
 }
 
+// Each verb chooses between its two instances by an `if`: a closure can't take a type, so no function can make the choice for all.
 pub trait Form {
-    // How many octets stand before the Wrap token of a message of n octets, if one may be so long.
+    // How many octets stand before the Wrap token of a message of n octets. A message that is too long is refused.
     fn wrap_lead(n: usize) -> Result<usize, Refusal>;
 
     // Writes the Wrap token of n octets from `start`, and returns how long it is.
     fn wrap_write(parts: Parts, buf: &mut [u8], start: usize, n: usize) -> Result<usize, Refusal>;
 
-    // Opens the Wrap token of n octets at the front of a buffer.
-    fn wrap_open(context: Context, buf: &mut [u8], n: usize) -> Result<Unwrapped, Refusal>;
+    // Opens a Wrap token where it stands.
+    fn wrap_open(context: Context, token: &mut [u8]) -> Result<Unwrapped, Refusal>;
 
     // Writes the MIC token over some data at the front of a buffer, and returns how long it is.
     fn mic_write(
@@ -56,8 +57,9 @@ impl Form for Bare {
         )
     }
 
-    fn wrap_open(context: Context, buf: &mut [u8], n: usize) -> Result<Unwrapped, Refusal> {
-        wrap::wrap_open(context, buf, 0, n)
+    fn wrap_open(context: Context, token: &mut [u8]) -> Result<Unwrapped, Refusal> {
+        let n = token.len();
+        wrap::wrap_open(context, token, 0, n)
     }
 
     fn mic_write(
@@ -91,8 +93,9 @@ impl Form for Framed {
         )
     }
 
-    fn wrap_open(context: Context, buf: &mut [u8], n: usize) -> Result<Unwrapped, Refusal> {
-        framed_wrap::framed_wrap_open(context, buf, 0, n)
+    fn wrap_open(context: Context, token: &mut [u8]) -> Result<Unwrapped, Refusal> {
+        let n = token.len();
+        framed_wrap::framed_wrap_open(context, token, 0, n)
     }
 
     fn mic_write(

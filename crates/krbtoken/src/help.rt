@@ -24,7 +24,8 @@ const TERMS: [&str; 3] = [
     "TOKENFILE has the token as it is. framed: in the frame that tokens travel in.",
 ];
 
-// The verb and the words that it takes.
+// The verb and the words that it takes. This and `purpose` are matches and no table, since a search in a table would need an answer for a
+// verb that is not in it.
 pub fn words(verb: Verb) -> &'static str {
     match verb {
         Verb::Key => "key",
@@ -41,20 +42,12 @@ pub fn words(verb: Verb) -> &'static str {
     }
 }
 
-// How many words a verb takes after it.
+// How many words a verb takes after it. A word in brackets, which stands last, may be left out.
 pub fn counts(verb: Verb) -> RangeInclusive<usize> {
-    match verb {
-        Verb::Key => 0..=0,
-        Verb::Open => 3..=4,
-        Verb::Wrap => 6..=7,
-        Verb::Verify => 4..=5,
-        Verb::Mic => 4..=5,
-        Verb::Decrypt => 3..=3,
-        Verb::Encrypt => 4..=4,
-        Verb::Checksum => 2..=2,
-        Verb::Bill => 4..=4,
-        Verb::Help => 0..=0,
-    }
+    let words = words(verb);
+    let most = words.split(' ').skip(1).count();
+    let optional = usize::from(words.ends_with(']'));
+    most.saturating_sub(optional)..=most
 }
 
 // What a verb does.

@@ -1,6 +1,4 @@
 // What is read: standard input and files, to their ends.
-ghost use Rattle.std.specs.Prelude.{◌≤◌, length, IfOk};
-
 use crate::failure::WrongUse;
 use std::io;
 use std::io::Read;
@@ -16,20 +14,18 @@ pub fn unreadable(error: io::Error) -> WrongUse {
     WrongUse::Io(UNREADABLE, error)
 }
 
-// Reads until the input ends, and returns how many octets it has. An input that fills the buffer is too long.
-pub fn read(
+// Reads until the input ends, and returns the octets that were read. An input that fills the buffer is too long.
+pub fn read<'a>(
     from: &mut impl Read,
-    buf: &mut [u8],
+    buf: &'a mut [u8],
     too_long: &'static str,
     unreadable: &'static str,
-) -> Result<usize, WrongUse>
-    ensures { IfOk result (λ n. n ≤ length buf.new) }
-{
-    // How far a turn goes is known only when it has read.
+) -> Result<&'a mut [u8], WrongUse> {
+    // `read_exact` refuses an input that is shorter than the buffer, and `read_to_end` needs the heap.
     let mut n: usize = 0;
     while n < buf.len() {
         match from.read(&mut buf[n..]) {
-            Ok(0) => return Ok(n),
+            Ok(0) => return Ok(&mut buf[..n]),
             Ok(more) => n += more,
             Err(error) => return Err(WrongUse::Io(unreadable, error)),
         }
@@ -38,9 +34,7 @@ pub fn read(
 }
 
 // Reads standard input, of at most 65,536 octets.
-pub fn standard(rt: HostRuntime, buf: &mut [u8]) -> Result<usize, WrongUse>
-    ensures { IfOk result (λ n. n ≤ length buf.new) }
-{
+pub fn standard(rt: HostRuntime, buf: &mut [u8]) -> Result<&mut [u8], WrongUse> {
     read(
         &mut rt.stdin(),
         buf,

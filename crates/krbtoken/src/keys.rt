@@ -21,8 +21,8 @@ fn wrong_password(error: TextError) -> WrongUse {
 // Prints the key of a password, which ends before one closing newline.
 pub fn key(rt: HostRuntime) -> Result<(), Failure> {
     let mut buf = [0; PASSWORD_BUFFER];
-    let n = input::read(&mut rt.stdin(), &mut buf, TOO_LONG, input::UNREADABLE)?;
-    let units = utf8::units(input::without_newline(&buf[..n])).map_err(wrong_password)?;
+    let text = input::read(&mut rt.stdin(), &mut buf, TOO_LONG, input::UNREADABLE)?;
+    let units = utf8::units(input::without_newline(text)).map_err(wrong_password)?;
     let key = key::password_key(units.as_slice())?;
     output::digits(rt, &key)
 }
@@ -31,8 +31,8 @@ pub fn checksum(arguments: &mut Arguments) -> Result<(), Failure> {
     let key = arguments.key()?;
     let usage = arguments.usage()?;
     let rt = arguments.rt;
-    let mut data = [0; input::BUFFER];
-    let n = input::standard(rt, &mut data)?;
-    let checksum = checksum::checksum(key, usage, &data[..n])?;
+    let mut buf = [0; input::BUFFER];
+    let data = input::standard(rt, &mut buf)?;
+    let checksum = checksum::checksum(key, usage, data)?;
     output::digits(rt, &checksum)
 }

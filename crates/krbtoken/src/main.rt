@@ -37,8 +37,8 @@ fn run(arguments: &mut Arguments) -> Result<(), Failure> {
 fn main(rt: HostRuntime) {
     let mut arguments = Arguments::new(rt);
     let asks = arguments.asks_status();
-    let status = failure::told(rt, run(&mut arguments));
+    let exit = failure::report(rt, run(&mut arguments));
     if asks {
-        output::status(rt, status);
+        output::status(rt, exit);
     }
 }

@@ -15,9 +15,9 @@ pub fn encrypt(arguments: &mut Arguments) -> Result<(), Failure> {
     let confounder = arguments.confounder()?;
     let rt = arguments.rt;
     let mut buf = [0; BUFFER];
-    let n = input::standard(rt, &mut buf[message::OVERHEAD..])?;
+    let n = input::standard(rt, &mut buf[message::OVERHEAD..])?.len();
     let total = message::encrypt(key, strength, usage, confounder, &mut buf, 0, n)?;
-    output::region(rt, &buf, 0, total)
+    output::octets(rt, output::part(&buf, 0, total)?)
 }
 
 // Decrypts standard input, and writes the length of the data and the data.
@@ -27,8 +27,10 @@ pub fn decrypt(arguments: &mut Arguments) -> Result<(), Failure> {
     let usage = arguments.usage()?;
     let rt = arguments.rt;
     let mut buf = [0; input::BUFFER];
-    let n = input::standard(rt, &mut buf)?;
-    let length = message::decrypt(key, strength, usage, &mut buf, 0, n)?;
+    let region = input::standard(rt, &mut buf)?;
+    let n = region.len();
+    let length = message::decrypt(key, strength, usage, region, 0, n)?;
     println!(rt; "length {length}")?;
-    output::named_digits(rt, "data", &buf, message::OVERHEAD, length)
+    let data = output::part(region, message::OVERHEAD, length)?;
+    output::named_digits(rt, "data", data)
 }

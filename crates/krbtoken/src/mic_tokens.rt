@@ -1,6 +1,4 @@
 // The verbs of MIC tokens: RFC 4757, section 7.2, with their frame or without.
-ghost use Rattle.std.specs.Prelude.{◌≤◌, length, IfOk};
-
 use crate::arguments::Arguments;
 use crate::failure::{Failure, WrongUse};
 use crate::forms::{Bare, Form, Framed};
@@ -16,11 +14,11 @@ const LONG_TOKEN: &str = "the token file is too long: expected at most 65536 oct
 
 // Writes the token over standard input.
 fn mic_input<F: Form>(rt: HostRuntime, context: Context, sequence: u32) -> Result<(), Failure> {
-    let mut data = [0; input::BUFFER];
-    let n = input::standard(rt, &mut data)?;
+    let mut buf = [0; input::BUFFER];
+    let data = input::standard(rt, &mut buf)?;
     let mut token = [0; TOKEN];
-    let total = F::mic_write(context, sequence, &data[..n], &mut token)?;
-    output::region(rt, &token, 0, total)
+    let total = F::mic_write(context, sequence, data, &mut token)?;
+    output::octets(rt, output::part(&token, 0, total)?)
 }
 
 pub fn mic(arguments: &mut Arguments) -> Result<(), Failure> {
@@ -35,17 +33,15 @@ pub fn mic(arguments: &mut Arguments) -> Result<(), Failure> {
 
 // Reads the token over standard input.
 fn verify_input<F: Form>(rt: HostRuntime, context: Context, token: &[u8]) -> Result<(), Failure> {
-    let mut data = [0; input::BUFFER];
-    let n = input::standard(rt, &mut data)?;
-    let sequence = F::mic_read(context, &data[..n], token)?;
+    let mut buf = [0; input::BUFFER];
+    let data = input::standard(rt, &mut buf)?;
+    let sequence = F::mic_read(context, data, token)?;
     println!(rt; "sequence {sequence}")?;
     Ok(())
 }
 
-// Reads the token file that the next word names, and returns how many octets it has.
-fn token_file(arguments: &mut Arguments, buf: &mut [u8]) -> Result<usize, WrongUse>
-    ensures { IfOk result (λ n. n ≤ length buf.new) }
-{
+// Reads the token file that the next word names, and returns its octets.
+fn token_file<'a>(arguments: &mut Arguments, buf: &'a mut [u8]) -> Result<&'a mut [u8], WrongUse> {
     let mut file = arguments
         .file()
         .map_err(|error| WrongUse::Io(NO_TOKEN, error))?;
@@ -55,8 +51,7 @@ fn token_file(arguments: &mut Arguments, buf: &mut [u8]) -> Result<usize, WrongU
 pub fn verify(arguments: &mut Arguments) -> Result<(), Failure> {
     let context = arguments.context()?;
     let mut buf = [0; input::BUFFER];
-    let n = token_file(arguments, &mut buf)?;
-    let token = &buf[..n];
+    let token = token_file(arguments, &mut buf)?;
     if arguments.framed()? {
         verify_input::<Framed>(arguments.rt, context, token)
     } else {

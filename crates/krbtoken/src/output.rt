@@ -1,6 +1,6 @@
-// What is written on standard output: results and refusals. std puts a line together and writes it at once. The status of the run goes to
-// a descriptor of its own.
-use crate::failure::Failure;
+// What is written on standard output: results and refusals. A line is one write, but for that of `named_digits`, which is two. The status
+// of the run goes to a descriptor of its own.
+use crate::failure::{Exit, Failure};
 use billing::status::Status;
 use std::fmt;
 use std::fs::File;
@@ -13,13 +13,13 @@ const MOST_DIGITS: usize = 131072;
 
 // Writes the number of a status on descriptor 3, which std knows by its path alone. Not every caller has opened it. It is opened for
 // reading too, since opening a fifo for writing alone waits for a reader.
-pub fn status(rt: HostRuntime, number: u8) {
+pub fn status(rt: HostRuntime, exit: Exit) {
     if let Ok(mut file) = File::options()
         .read(true)
         .append(true)
         .open(&rt, "/dev/fd/3")
     {
-        let _ = write!(file, "{number}");
+        let _ = write!(file, "{}", exit as u8);
     }
 }
 
@@ -46,16 +46,17 @@ impl fmt::Display for StatusWords {
     }
 }
 
-// The octets of a region.
-fn part(buf: &[u8], start: usize, n: usize) -> Result<&[u8], Refusal> {
+// The octets of a region that a call of the library answered. It lies inside the buffer, but the check does not prove that by itself from
+// the contracts of the calls, so the bounds are tested here.
+pub fn part(buf: &[u8], start: usize, n: usize) -> Result<&[u8], Refusal> {
     buf.get(start..)
         .and_then(|after| after.get(..n))
         .ok_or(Refusal::Region)
 }
 
-// Writes the octets of a region as they are.
-pub fn region(rt: HostRuntime, buf: &[u8], start: usize, n: usize) -> Result<(), Failure> {
-    rt.write_all(part(buf, start, n)?)?;
+// Writes octets as they are.
+pub fn octets(rt: HostRuntime, octets: &[u8]) -> Result<(), Failure> {
+    rt.write_all(octets)?;
     Ok(())
 }
 
@@ -68,19 +69,12 @@ pub fn digits(rt: HostRuntime, octets: &[u8]) -> Result<(), Failure> {
     Ok(())
 }
 
-// Writes a line: a name and, after a blank, the octets of a region in hexadecimal. If there are none, there is no blank.
-pub fn named_digits(
-    rt: HostRuntime,
-    name: &str,
-    buf: &[u8],
-    start: usize,
-    n: usize,
-) -> Result<(), Failure> {
-    if n == 0 {
+// Writes a line: a name and, after a blank, octets in hexadecimal. If there are none, there is no blank.
+pub fn named_digits(rt: HostRuntime, name: &str, octets: &[u8]) -> Result<(), Failure> {
+    if octets.is_empty() {
         println!(rt; "{name}")?;
         return Ok(());
     }
-    let octets = part(buf, start, n)?;
     print!(rt; "{name} ")?;
     digits(rt, octets)
 }

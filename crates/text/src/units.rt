@@ -4,7 +4,8 @@ ghost use Rattle.text.specs.Utf8 as Spec;
 
 use std::marker::Model;
 
-// At most 1,024 units. A contract sees the list of them.
+// At most 1,024 units. A contract sees the list of them. It is a type beside `tokens::short::Short`, which has octets: there is no array of
+// a type parameter.
 #[derive(Clone, Debug, Drop)]
 pub struct Units {
     units: [u16; 1024],

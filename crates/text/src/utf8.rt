@@ -1,4 +1,5 @@
-// UTF-8 (RFC 3629) read as the units of UTF-16 (RFC 2781).
+// UTF-8 (RFC 3629) read as the units of UTF-16 (RFC 2781). std has `str::from_utf8` and `encode_utf16`; this is written out, since the
+// must-fail edits `surrogate_taken` and `surrogates_in_wrong_order` are edits of it.
 ghost use Rattle.std.specs.Prelude.{◌≡◌, ◌+◌, ◌≤◌, ◌<◌, length, Some};
 ghost use Rattle.text.specs.Utf8 as Spec;
 
@@ -122,6 +123,7 @@ pub fn units(text: &[u8]) -> Result<Units, TextError>
     }
     let mut units = Units::new();
     let mut ahead = text;
+    // The width of a character is known only when it has been read.
     while !ahead.is_empty() {
         let Some(found) = character_in(ahead) else {
             return Err(TextError::NotUtf8);

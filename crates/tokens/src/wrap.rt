@@ -74,7 +74,8 @@ fn under_seal(
     }
 }
 
-// Whether the checksum of confounder and body is the one that came, and the last octet is the pad.
+// Whether the checksum of confounder and body is the one that came, and the last octet is the pad. That a body has a pad is asked of it
+// here and in the two functions below, and held by no type: a body is a part of the region, whose length the public calls test.
 fn verify(
     context: Context,
     sealed: bool,
@@ -169,7 +170,8 @@ fn write_token(
     octets::place(region, CONFOUNDER_AT, &confounder);
 }
 
-// Opens the token in a region, or leaves it as it came.
+// Opens the token in a region, or leaves it as it came. `MessageKey::read` takes an encrypted message apart in the same way; a function
+// for both would take the step between as a closure, with its clauses.
 fn open_token(context: Context, region: &mut [u8]) -> Result<Unwrapped, Refusal>
     requires { 33 ≤ length region.old }
     ensures answer { result ≡ Spec.unwrapped_answer (Spec.opened context region.old) }

@@ -6,8 +6,10 @@ mod Choose
 mod Copy
 mod HmacParts
 mod Keystream
+mod Mapped
 mod Padding
 mod Parts
 mod Rounds
 mod Shifts
+mod Words
 mod Xor

@@ -4,9 +4,9 @@ mod Absorb
 mod Below
 mod Choose
 mod Copy
+mod Cycle
 mod HmacParts
 mod Keystream
-mod Mapped
 mod Padding
 mod Parts
 mod Rounds

@@ -34,11 +34,16 @@ fn key_block(key: &[u8]) -> [u8; 64]
     filled(&digest)
 }
 
-// Each octet of the block xor the octet of a pad.
+// Each octet of the block xor the octet of a pad. `block.map(|octet| octet ^ pad)` was tried: the HMAC of 20 octets took 1.8
+// times the time.
 fn xor_pad(pad: u8, block: [u8; 64]) -> [u8; 64]
     ensures { result ≡ Spec.xor_pad pad block }
 {
-    block.map(|octet| octet ^ pad)
+    let mut padded = block;
+    for octet in padded.iter_mut() {
+        *octet ^= pad;
+    }
+    padded
 }
 
 // The hash after a key of sixteen octets as a block, xor a pad. Such a key needs no hashing.

@@ -22,25 +22,20 @@ fn up_to_256() -> [u8; 256]
     array::from_fn(|n| n as u8)
 }
 
-// The state that a key gives. The key's octet at i mod its length is found by a count that starts again at its end: `key[i % key.len()]`
-// was tried, and takes up to twice the time; the proof of `key.iter().cycle()` did not close. `s.swap(i, j)` was tried too: it tests which
-// of the two is less, and takes up to 1.8 times the time where the keys vary.
+// The state that a key gives. The two octets are exchanged by hand: `s.swap(i, j)` was tried, which tests at each turn which of the two
+// places comes first, and RC4 of one octet took 1.9 times the time where the keys vary. `key[i % key.len()]` was tried too, and takes up to
+// twice the time.
 fn key_schedule(key: &[u8]) -> Rc4
     requires { 0 < length key.now }
     ensures { result ≡ Spec.key_schedule key.now }
 {
     let mut s = up_to_256();
     let mut j: usize = 0;
-    let mut k: usize = 0;
-    for i in 0..256 {
+    for (i, octet) in key.iter().cycle().take(256).enumerate() {
         let a = s[i];
-        j = (j + usize::from(a) + usize::from(key[k])) % 256;
+        j = (j + usize::from(a) + usize::from(*octet)) % 256;
         s[i] = s[j];
         s[j] = a;
-        k += 1;
-        if k == key.len() {
-            k = 0;
-        }
     }
     Rc4 { s, i: 0, j: 0 }
 }

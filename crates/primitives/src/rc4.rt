@@ -56,8 +56,8 @@ impl Rc4 {
         Ok(key_schedule(key))
     }
 
-    // The text under the keystream from here on, and the state where it stopped. `a` is S[i] at the head of each turn. The next one is
-    // read before this turn stores, for speed: the next j then need not wait for the stores. Where j is the place read, `a` stands there.
+    // The text under the keystream from here on, and the state where it stopped. `a` is S[i] for the i of the turn that begins. It is read
+    // one turn early, before the two stores, so that the next j does not wait for them. Where j is that place, `a` itself is stored there.
     pub fn apply(self, text: &mut [u8]) -> Self
         ensures { Spec.Applied self text.old result text.new }
     {

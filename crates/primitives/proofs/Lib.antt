@@ -4,10 +4,12 @@ mod Absorb
 mod Below
 mod Choose
 mod Copy
+mod Cycle
 mod HmacParts
 mod Keystream
 mod Padding
 mod Parts
 mod Rounds
 mod Shifts
+mod Words
 mod Xor

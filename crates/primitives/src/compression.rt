@@ -32,7 +32,7 @@ pub fn shift<const ROUNDS: usize>(n: usize, shifts: &[[u32; 4]; ROUNDS]) -> u32
     shifts[n / 16][n % 4]
 }
 
-// The four operations from n. One loop over all operations was tried in place of `four` and `round`: it takes twice the time.
+// The four operations from n. One loop over all operations was tried in place of `four` and `round`: MD4 and MD5 took twice the time.
 fn four<C: Compression>(tables: &C, n: usize, w: Words, block: &[u8; 64]) -> Words
     requires { n + 4 ≤ 16 * C.ROUNDS }
     ensures { (o : Words) → w ≡ operations C.step n o block.now → result ≡ operations C.step (n + 4) o block.now }

@@ -13,7 +13,8 @@ pub enum Algorithm {
     Md5,
 }
 
-// The words A, B, C and D. They and the states of this crate may come of a key, so that they have no `Debug`, which would print it.
+// The words A, B, C and D. They and the states of this crate may come from a key. So they have no `Debug`, which would print it, and
+// no `==`, which would compare it in a time that tells something of it.
 #[derive(Clone, Copy)]
 pub struct Words {
     pub a: u32,
@@ -50,7 +51,7 @@ fn compress(algorithm: Algorithm, w: Words, block: &[u8; 64]) -> Words
     }
 }
 
-// The block with octets put in at `at`. A whole block is read without the old one.
+// The block with octets put in at `at`. Where they fill all of it, the old block is not copied first.
 fn fill(block: [u8; 64], at: usize, octets: &[u8]) -> [u8; 64]
     requires { at + length octets.now ≤ 64 }
     ensures { result ≡ paste block at octets.now (length octets.now) }
@@ -82,7 +83,8 @@ fn padding(n: u64) -> [u8; 72]
     pad
 }
 
-// Section 3.5: the octets of the words, the lowest of each first.
+// Section 3.5: the octets of the words, the lowest of each first. They are listed, since std joins the arrays that
+// `[w.a, w.b, w.c, w.d].map(u32::to_le_bytes)` gives into a slice alone (`as_flattened`), and to make an array of it is no plainer.
 #[tactic(auto, using(crate::proofs::Padding::le_bytes_word), unfolding(crate::specs::Hash::output, crate::specs::Octets::little_endian))]
 fn output(w: Words) -> [u8; 16]
     ensures { result ≡ Spec.output w }
@@ -98,7 +100,7 @@ fn output(w: Words) -> [u8; 16]
 }
 
 impl Hash {
-    // Before the first octet.
+    // The state before any of the message has come.
     pub fn new(algorithm: Algorithm) -> Self
         ensures { result ≡ Spec.begun algorithm }
     {
@@ -123,7 +125,7 @@ impl Hash {
         }
     }
 
-    // A part more. One that leaves room in the block only goes into it, and is spared the way through the loop of blocks.
+    // The state after one more part of the message. A part that does not fill the block is only put into it: that needs no loop.
     #[tactic(auto, using(crate::proofs::Absorb::absorb_short))]
     pub fn update(self, part: &[u8]) -> Self
         ensures { result ≡ Spec.absorb self part.now }
@@ -139,7 +141,7 @@ impl Hash {
         self.update_blocks(part)
     }
 
-    // A part more: the block is filled as far as it has room, compressed when it is full, and filled again.
+    // The state after a part of any length: the block is filled as far as it has room, compressed when it is full, and filled again.
     fn update_blocks(self, part: &[u8]) -> Self
         ensures { result ≡ Spec.absorb self part.now }
     {

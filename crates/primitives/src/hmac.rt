@@ -4,7 +4,8 @@ ghost use Rattle.primitives.specs.Hmac as Spec;
 
 use crate::hash::{Algorithm, Hash};
 
-// The state after some of a text: that of the inner hash, and that of the outer one, which waits for the inner digest.
+// The state after some of a text: that of the inner hash, and that of the outer one, which waits for the inner digest. It comes from a
+// key: it has no `Debug`, which would print it, and no `==`, which would compare it in a time that tells something of it.
 #[derive(Clone, Copy)]
 pub struct Hmac {
     pub inner: Hash,
@@ -33,7 +34,8 @@ fn key_block(key: &[u8]) -> [u8; 64]
     filled(&digest)
 }
 
-// Each octet of the block xor the octet of a pad.
+// Each octet of the block xor the octet of a pad. `block.map(|octet| octet ^ pad)` was tried: the HMAC of 20 octets took 1.8
+// times the time.
 fn xor_pad(pad: u8, block: [u8; 64]) -> [u8; 64]
     ensures { result ≡ Spec.xor_pad pad block }
 {
@@ -53,7 +55,7 @@ fn after_key(pad: u8, key: [u8; 16]) -> Hash
 }
 
 impl Hmac {
-    // Before the first octet of the text.
+    // The state under a key, before any of the text has come.
     #[tactic(auto, unfolding(crate::specs::Hmac::begun, crate::specs::Hmac::after_key))]
     pub fn new(key: &[u8]) -> Self
         ensures { result ≡ Spec.begun key.now }
@@ -67,7 +69,7 @@ impl Hmac {
         }
     }
 
-    // A part of the text more.
+    // The state after one more part of the text.
     #[tactic(auto, unfolding(crate::specs::Hmac::absorb))]
     pub fn update(self, part: &[u8]) -> Self
         ensures { result ≡ Spec.absorb self part.now }
@@ -87,7 +89,8 @@ impl Hmac {
         self.outer.update(&digest).finish()
     }
 
-    // The inner hash before the first octet of the text, under a key of sixteen octets.
+    // The inner hash before any of the text has come, under a key of sixteen octets. This and `begin_outer` differ in the pad alone:
+    // both are kept, since `tokens` and entry 99 of docs/DECISIONS.md name them.
     pub fn begin_inner(key: [u8; 16]) -> Hash
         ensures { result ≡ Spec.after_key 0x36 key }
     {

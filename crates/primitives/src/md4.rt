@@ -7,7 +7,7 @@ use crate::compression::Compression;
 use crate::hash::Words;
 use crate::{compression, word};
 
-// The tables of MD4.
+// The tables of MD4. They and `operation` look like those of MD5, and differ as the two documents print them.
 struct Md4 {
     // The addend of each round.
     addends: [u32; 3],

@@ -7,7 +7,7 @@ use crate::compression::Compression;
 use crate::hash::Words;
 use crate::{compression, word};
 
-// The tables of MD5.
+// The tables of MD5. They and `operation` look like those of MD4, and differ as the two documents print them.
 struct Md5 {
     // The addends T[1] to T[64].
     addends: [u32; 64],

@@ -6,7 +6,8 @@ use crate::limits;
 use crate::limits::LengthError;
 use std::array;
 
-// The octets S and the indices i and j.
+// The octets S and the indices i and j. They come from a key: they have no `Debug`, which would print it, and no `==`, which would
+// compare it in a time that tells something of it.
 #[derive(Clone, Copy)]
 pub struct Rc4 {
     pub s: [u8; 256],
@@ -21,30 +22,26 @@ fn up_to_256() -> [u8; 256]
     array::from_fn(|n| n as u8)
 }
 
-// The state that a key gives. The key's octet at i mod its length is found by a count that starts again at its end: `key[i % key.len()]`
-// was tried, and takes up to twice the time.
+// The state that a key gives. The two octets are exchanged by hand: `s.swap(i, j)` was tried, which tests at each turn which of the two
+// places comes first, and RC4 of one octet took 1.9 times the time where the keys vary. `key[i % key.len()]` was tried too, and takes up to
+// twice the time.
 fn key_schedule(key: &[u8]) -> Rc4
     requires { 0 < length key.now }
     ensures { result ≡ Spec.key_schedule key.now }
 {
     let mut s = up_to_256();
     let mut j: usize = 0;
-    let mut k: usize = 0;
-    for i in 0..256 {
+    for (i, octet) in key.iter().cycle().take(256).enumerate() {
         let a = s[i];
-        j = (j + usize::from(a) + usize::from(key[k])) % 256;
+        j = (j + usize::from(a) + usize::from(*octet)) % 256;
         s[i] = s[j];
         s[j] = a;
-        k += 1;
-        if k == key.len() {
-            k = 0;
-        }
     }
     Rc4 { s, i: 0, j: 0 }
 }
 
 impl Rc4 {
-    // Begun from a key of 16 octets, of which none can be refused.
+    // Begun from a key of 16 octets. No such key is refused, so it gives no `Result`.
     pub fn new(key: [u8; 16]) -> Self
         ensures { result ≡ Spec.key_schedule key }
     {
@@ -59,8 +56,8 @@ impl Rc4 {
         Ok(key_schedule(key))
     }
 
-    // The text under the keystream from here on, and the state where it stopped. `a` is the S[i] of the next octet, read before
-    // the places of this one are stored: the next j then waits for no store.
+    // The text under the keystream from here on, and the state where it stopped. `a` is S[i] for the i of the turn that begins. It is read
+    // one turn early, before the two stores, so that the next j does not wait for them. Where j is that place, `a` itself is stored there.
     pub fn apply(self, text: &mut [u8]) -> Self
         ensures { Spec.Applied self text.old result text.new }
     {

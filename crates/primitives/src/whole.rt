@@ -18,7 +18,7 @@ fn digest_of(algorithm: Algorithm, data: &[u8]) -> Result<[u8; 16], LengthError>
     Ok(Hash::new(algorithm).update(data).finish())
 }
 
-// The MD4 digest of 0 to 65,536 octets.
+// The MD4 digest of 0 to 65,536 octets. This and `md5` differ in the algorithm alone: the C interface and the README name both.
 pub fn md4(data: &[u8]) -> Result<[u8; 16], LengthError>
     ensures { result ≡ Spec.digested is_md4 «data».now }
 {

@@ -1,6 +1,5 @@
 -- What holds at the head of each loop of `rc4`: before its first turn, after one turn more, and at its end.
-use Rattle.std.proofs.Common.{◌≡◌, ℕ, zero, suc, ◌+◌, ◌%◌, ◌<◌, ◌≤◌, ◌⊎◌, List, [], ◌∷◌, ◌++◌, length, get_or, take, drop, set, sym, refl, ap, ◌∙◌, ap₂, inl, inr, mod-eq_of_lt, add_comm, add-one, arith, length-set, length-take-le, take_all, drop-cons, get_or-set_other, get_or-take, take-suc, get_or-set_same}
-use native.Mathlib.Nat.{zero-mod, mod_self, mod-add-mod}
+use Rattle.std.proofs.Common.{◌≡◌, ℕ, zero, suc, ◌+◌, ◌%◌, ◌<◌, ◌≤◌, ◌⊎◌, List, [], ◌∷◌, ◌++◌, length, get_or, take, drop, set, sym, refl, ap, ◌∙◌, ap₂, inl, inr, add_comm, add-one, arith, length-set, length-take-le, take_all, drop-cons, get_or-set_other, get_or-take, take-suc, get_or-set_same}
 use native.Mathlib.Decide.{ℕ_discrete}
 use lib.Seq.{get_or_at, set_at, append_snoc}
 use lib.Bits.{bit_xor}
@@ -21,58 +20,44 @@ counted (suc n) s size each =
     ∙ take-suc s n 0 (omega arith)
     ∙ ap₂ (λ (l : List ℕ) (x : ℕ). l ++ (x ∷ [])) front (each n (omega arith))
 
--- ---- The loop of `key_schedule`: the turns for 0 to i - 1 are done, and k is i modulo the key's length
+-- ---- The loop of `key_schedule`: the turns for 0 to i - 1 are done
 
-pub record Scheduling (key s : List ℕ) (j k i : ℕ) : Type 0 where
+pub record Scheduling (key s : List ℕ) (j i : ℕ) : Type 0 where
   pub within : i ≤ 256
   pub s_length : length s ≡ 256
   pub j_below : j < 256
-  pub k_below : k < length key
-  pub k_is : k ≡ i % length key
   pub state_is : state s 0 j ≡ turns key i
 
-pub scheduling_none : (key s : List ℕ) → 0 < length key → s ≡ up_to 256 → Scheduling key s 0 0 0
-scheduling_none key s some e =
+pub scheduling_none : (key s : List ℕ) → s ≡ up_to 256 → Scheduling key s 0 0
+scheduling_none key s e =
     record {
       within = omega arith;
       s_length = ap length e ∙ up_to_length 256;
       j_below = omega arith;
-      k_below = some;
-      k_is = sym (zero-mod (length key));
       state_is = ap (λ (l : List ℕ). state l 0 0) e ∙ sym (turns_none key);
     }
 
--- k' is the place after k in a key of n octets
-abbrev pub NextPlace : ℕ → ℕ → ℕ → Type 0
-NextPlace n k k' = ((k + 1 ≡ n) × (k' ≡ 0)) ⊎ ((k + 1 ≡ n → ⊥) × (k' ≡ k + 1))
-
--- the values as the code has them: j' and k' are the next j and k, a and b are S[i] and S[j'] before the swap, x is the key's octet
-module _ {key s : List ℕ} {j k i : ℕ} (h : Scheduling key s j k i) (lt : i < 256)
-    (j' a x b k' : ℕ) (ea : a ≡ get_or s i 0) (ex : x ≡ get_or key k 0) (ej : j' ≡ (j + a + x) % 256) (eb : b ≡ get_or s j' 0) where
+-- the values as the code has them: j' is the next j, a and b are S[i] and S[j'] before the two are exchanged, x is the key's octet
+module _ {key s : List ℕ} {j i : ℕ} (h : Scheduling key s j i) (lt : i < 256)
+    (j' a x b : ℕ) (ea : a ≡ get_or s i 0) (ex : x ≡ get_or key (i % length key) 0) (ej : j' ≡ (j + a + x) % 256) (eb : b ≡ get_or s j' 0) where
   state_more : state (set (set s i b) j' a) 0 j' ≡ turn key i (turns key i)
   unfolding turn
   state_more =
-      let e : state (set (set s i b) j' a) 0 j' ≡ turn key i (state s 0 j) = cc h.k_is in
+      let e : state (set (set s i b) j' a) 0 j' ≡ turn key i (state s 0 j) = cc ea in
       e ∙ ap (turn key i) h.state_is
 
-  k_more : NextPlace (length key) k k' → (k' < length key) × (k' ≡ (k + 1) % length key)
-  k_more (inl (end, e)) = (omega (arith, h.k_below), e ∙ sym (mod_self (length key)) ∙ ap (λ (m : ℕ). m % length key) (sym end))
-  k_more (inr (on, e)) = (omega (arith, h.k_below), e ∙ sym (mod-eq_of_lt (omega (arith, h.k_below))))
-
-  pub scheduling_more : NextPlace (length key) k k' → Scheduling key (set (set s i b) j' a) j' k' (i + 1)
-  scheduling_more w =
+  pub scheduling_more : Scheduling key (set (set s i b) j' a) j' (i + 1)
+  scheduling_more =
       record {
         within = omega arith;
         s_length = simp length-set h.s_length;
         j_below = omega arith;
-        k_below = (k_more w).0;
-        k_is = (k_more w).1 ∙ ap (λ (m : ℕ). (m + 1) % length key) h.k_is ∙ mod-add-mod i (length key) 1;
         state_is = state_more ∙ sym (turns_more key i);
       }
 
-pub scheduling_done : {key s : List ℕ} {j k i : ℕ} → Scheduling key s j k i → 256 ≤ i → state s 0 0 ≡ key_schedule key
+pub scheduling_done : {key s : List ℕ} {j i : ℕ} → Scheduling key s j i → 256 ≤ i → state s 0 0 ≡ key_schedule key
 unfolding key_schedule
-scheduling_done {key} {s} {j} {k} {i} h end =
+scheduling_done {key} {s} {j} {i} h end =
     let all : i ≡ 256 = omega (arith, h.within) in
     ap (λ (st : Rc4). state st.s 0 0) (h.state_is ∙ ap (turns key) all)
 

@@ -1,6 +1,6 @@
 -- A turn fills the block as far as it has room, and goes on with the rest.
 use Rattle.std.proofs.Common.{◌≡◌, ℕ, ◌+◌, ◌%◌, ◌^◌, ◌≤◌, List, ◌++◌, Bool, cond, eqb, length, sym, ap, ◌∙◌, ap₂, arith, take-append-drop, rules, eq-eqb, ne_eqb}
-use lib.Seq.{paste, length-paste}
+use lib.Seq.{length-paste}
 use Rattle.primitives.specs.Hash.{absorb, compress}
 use Rattle.primitives.specs.declared.hash.Words.{Words}
 use Rattle.primitives.proofs.Absorb.{absorb_none, absorb_turn}

@@ -24,7 +24,7 @@ pub const MECHANISM: [u8; 11] = [
     0x06, 0x09, 0x2a, 0x86, 0x48, 0x86, 0xf7, 0x12, 0x01, 0x02, 0x02,
 ];
 
-// Whether octets are those of the mechanism, as far as they go.
+// Whether octets are those of the mechanism, as far as they go. By `same`, as the definition `agree`.
 fn is_mechanism(octets: &[u8]) -> bool
     ensures { result ≡ Spec.agree octets.now Spec.mechanism }
 {

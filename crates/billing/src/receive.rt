@@ -1,6 +1,6 @@
 // Tokens received into a window: a token is read, and the sequence number that it presents is billed. A token that is refused never
 // reaches the window. Regions are given as in `tokens`. There is a function for each kind of token and for each form, with its frame or
-// without: README and C name all four, and their clauses are over four different definitions.
+// without: C names all four, and their clauses are over four different definitions.
 ghost use Rattle.std.specs.Prelude.{◌≡◌, ◌+◌};
 ghost use Rattle.tokens.specs.Answer.{status_number, number_found, unwrapped_sequence, unwrapped_sealed, unwrapped_length};
 ghost use Rattle.tokens.specs.Limits.{buffer_after};
@@ -25,7 +25,7 @@ pub struct Received {
 }
 
 impl Received {
-    // The number of the status that a caller is given, as C's, 0 where there is none.
+    // The number of the status that C is given, 0 where there is none. It is a method, as `Status::number` is.
     pub fn number(self) -> u32
         ensures { result ≡ Spec.number self.status }
     {

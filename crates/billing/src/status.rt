@@ -16,7 +16,7 @@ pub enum Status {
 }
 
 impl Status {
-    // The number that a caller is given. 0 is left for no status. It has a name and no `From`, as `Refusal::number`.
+    // The number that a caller is given. 0 is left for no status. It is a method and no `From`, as `Refusal::number`.
     pub fn number(self) -> u32
         ensures { result ≡ Spec.number self }
     {

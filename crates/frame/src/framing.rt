@@ -63,7 +63,8 @@ fn lead_of(octets: &[u8]) -> Result<usize, Refusal>
     }
 }
 
-// How many octets stand before the token in the region of `len` octets from `start`, if it is one whole frame.
+// How many octets stand before the token in the region of `len` octets from `start`, if it is one whole frame. Regions are given as in
+// `tokens`.
 #[tactic(auto, using(crate::proofs::Regions::region_fits, crate::proofs::Regions::region_refused, crate::proofs::Regions::region_read))]
 pub fn lead_in(buf: &[u8], start: usize, len: usize) -> Result<usize, Refusal>
     ensures { result ≡ Spec.lead_in buf.now start len }

@@ -46,8 +46,8 @@ impl fmt::Display for StatusWords {
     }
 }
 
-// The octets of a region that a call of the library answered. It lies inside the buffer, but the check does not prove that by itself from
-// the contracts of the calls, so the bounds are tested here.
+// The octets of a region that a call of the library answered. It lies inside the buffer. Slices at the calls were tried: the
+// search does not prove their bounds from the contracts of the calls. So the bounds are tested here.
 pub fn part(buf: &[u8], start: usize, n: usize) -> Result<&[u8], Refusal> {
     buf.get(start..)
         .and_then(|after| after.get(..n))

@@ -151,7 +151,7 @@ impl Hash {
             mut count,
             algorithm,
         } = self;
-        // No iterator gives parts of the sizes that the block has room for.
+        // `as_chunks` would give whole blocks alone: the front, which fills the block, and the rest would be two more steps.
         let mut rest = part;
         while !rest.is_empty() {
             let at = (count % 64) as usize;

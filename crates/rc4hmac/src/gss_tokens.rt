@@ -1,4 +1,4 @@
-// MIC and Wrap tokens for C.
+// MIC and Wrap tokens for C, without their frame; `framed_tokens` has the names for tokens with it.
 ghost use Rattle.std.specs.Prelude.{◌≡◌, ◌+◌, length};
 ghost use Rattle.tokens.specs.Answer.{map_ok};
 ghost use Rattle.tokens.specs.Limits.{buffer_after};

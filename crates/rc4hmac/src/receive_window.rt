@@ -1,4 +1,5 @@
-// The receive window for C: numbers handed in, and tokens received, with their frame or without.
+// The receive window for C: numbers handed in, and tokens received, with their frame or without: C has a
+// name for each.
 ghost use Rattle.std.specs.Prelude.{◌≡◌, ◌+◌, Ok};
 ghost use Rattle.billing.specs.Receive.{presented_by, received};
 ghost use Rattle.billing.specs.Window.{new_window, missing as missing_in};

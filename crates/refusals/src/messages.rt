@@ -39,7 +39,7 @@ fn tested_checksums(rt: &impl Print) {
     }
 }
 
-// This and `decrypt` are no one function: the fixed output has their calls in turn, and they differ in the call.
+// This and `decrypt` stay two functions: the fixed output has their calls in turn, and they differ in the call.
 fn encrypt(rt: &impl Print, name: &str, usage: u32, start: usize, len: usize) {
     let answer = OnBuffer::of(
         samples::buffer(),

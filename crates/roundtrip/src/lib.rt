@@ -1,5 +1,6 @@
 // Each writer of `tokens` and of `frame` and its reader, one after the other. It is a client: what it promises is proved from their contracts and
-// the published laws alone. Each kind of token has a function for each form, with its frame or without, as the writers and readers do.
+// the published laws alone. Each kind of token has a function for each form, with its frame or without, as the writers and readers do: the clauses are
+// over the definitions of each form. Regions are given as in `tokens`.
 #![tactic(auto)]
 
 ghost use Rattle.std.specs.Prelude.{◌+◌};

@@ -1,5 +1,5 @@
 // UTF-8 (RFC 3629) read as the units of UTF-16 (RFC 2781). std has `str::from_utf8` and `encode_utf16`; this is written out, since the
-// must-fail edits `surrogate_taken` and `surrogates_in_wrong_order` are edits of it.
+// must-fail edit `surrogate_taken` takes half of the surrogates for characters, which std's `char` can't be.
 ghost use Rattle.std.specs.Prelude.{◌≡◌, ◌+◌, ◌≤◌, ◌<◌, length, Some};
 ghost use Rattle.text.specs.Utf8 as Spec;
 

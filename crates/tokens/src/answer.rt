@@ -22,7 +22,7 @@ pub enum Refusal {
 }
 
 impl Refusal {
-    // The number that a caller is given. It has a name, which README and C's callers know, and no `From`.
+    // The number that a caller is given. It is a method, which docs/DECISIONS.md (36) names, and no `From`.
     pub fn number(self) -> u32
         ensures { result ≡ Spec.number self }
     {

@@ -24,7 +24,7 @@ impl Sender {
 }
 
 // The session key and its strength, and the sender. For a reader it is the sender that is expected. It has no `Debug`, which would print
-// the key.
+// the key, and no `==`, which would compare it in a time that tells something of it.
 #[derive(Clone, Copy)]
 pub struct Context {
     pub key: [u8; 16],

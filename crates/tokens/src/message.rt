@@ -19,7 +19,7 @@ pub const OVERHEAD: usize = 24;
 // Where the confounder stands.
 const CONFOUNDER_AT: usize = 16;
 
-// A key with what it is used for.
+// A key with what it is used for. This and `Keys` have no `Debug` and no `==`, as `Context`.
 #[derive(Clone, Copy)]
 struct MessageKey {
     key: [u8; 16],

@@ -148,7 +148,8 @@ fn open_parts(
     }
 }
 
-// Writes a token over a region, in which the message stands.
+// Writes a token over a region, in which the message stands. `MessageKey::write` puts an encrypted message together in the same way; see
+// `open_token`.
 fn write_token(
     context: Context,
     sequence: u32,

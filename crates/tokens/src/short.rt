@@ -1,21 +1,32 @@
 // A few octets, at most N, in an array.
-ghost use Rattle.std.specs.Prelude.{◌≡◌, ◌≤◌, ℕ, List, length, take};
+ghost use Rattle.std.specs.Prelude.{◌≡◌, ◌≤◌, length, take};
 
 use std::marker::Model;
 
-// At most N octets. Clauses see them as a list. It is not `Copy`: a `Model` with room after its list has no inverse.
-#[derive(Clone, Debug, Drop)]
+// At most N octets. Clauses see them as a list. The list gives the fields back, since zeros stand after it, so it is `Copy`.
+#[derive(Clone, Copy, Debug)]
 pub struct Short<const N: usize> {
     octets: [u8; N],
     length: usize,
 }
 
 impl<const N: usize> Model for Short<N> {
+    ghost use Rattle.std.specs.Prelude.{◌≡◌, ◌-◌, ◌≤◌, ℕ, List, ◌++◌, length as len, take, drop, replicate};
+    ghost use Rattle.primitives.proofs.Room as Room;
+
     ghost Value = { List ℕ };
 
     ghost view = { λ s. take s.length s.octets };
 
-    ghost invariant = { λ s. s.length ≤ N };
+    // Zeros stand after the last octet.
+    ghost invariant = { λ s. (s.length ≤ N) × (len s.octets ≡ N) × (drop s.length s.octets ≡ replicate (N - s.length) 0) };
+
+    ghost inverse = { λ l. record { octets = l ++ replicate (N - len l) 0; length = len l } };
+
+    ghost inverse_ok = { λ s h i. record {
+      octets = Room.filled N s.length s.octets h.1 h.0 h.2 i;
+      length = Room.kept N s.length s.octets h.1 h.0 i;
+    } };
 }
 
 impl<const N: usize> Short<N> {

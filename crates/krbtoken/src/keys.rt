@@ -22,7 +22,11 @@ fn wrong_password(error: TextError) -> WrongUse {
 pub fn key(rt: HostRuntime) -> Result<(), Failure> {
     let mut buf = [0; PASSWORD_BUFFER];
     let text = input::read(&mut rt.stdin(), &mut buf, TOO_LONG, input::UNREADABLE)?;
-    let units = utf8::units(input::without_newline(text)).map_err(wrong_password)?;
+    // A `match`: the borrow checker has no rule for `?` on a `Result` of a `Copy` type with a `Model` and an error with a `&'static str`.
+    let units = match utf8::units(input::without_newline(text)) {
+        Ok(units) => units,
+        Err(error) => return Err(wrong_password(error).into()),
+    };
     let key = key::password_key(units.as_slice())?;
     output::digits(rt, &key)
 }

@@ -1,12 +1,13 @@
 // Units of UTF-16 (RFC 2781), put one character after the other.
 ghost use Rattle.std.specs.Prelude.{◌≡◌, ◌+◌, ◌-◌, ◌≤◌, ◌<◌, ℕ, List, [], ◌∷◌, ◌++◌, length, take, drop, replicate};
 ghost use Rattle.text.specs.Utf8 as Spec;
+ghost use Rattle.primitives.proofs.Room as Room;
 
 use std::marker::Model;
 
 // At most 1,024 units. A contract sees the list of them. It is a type beside `tokens::short::Short`, which has octets: there is no array of
 // a type parameter.
-#[derive(Clone, Debug, Drop)]
+#[derive(Clone, Copy, Debug)]
 pub struct Units {
     units: [u16; 1024],
     count: usize,
@@ -18,7 +19,14 @@ impl Model for Units {
     ghost view = { λ u. take u.count u.units };
 
     // Zeros stand after the last unit.
-    ghost invariant = { λ u. (u.count ≤ 1024) × (drop u.count u.units ≡ replicate (1024 - u.count) 0) };
+    ghost invariant = { λ u. (u.count ≤ 1024) × (length u.units ≡ 1024) × (drop u.count u.units ≡ replicate (1024 - u.count) 0) };
+
+    ghost inverse = { λ l. record { units = l ++ replicate (1024 - length l) 0; count = length l } };
+
+    ghost inverse_ok = { λ u h i. record {
+      units = Room.filled 1024 u.count u.units h.1 h.0 h.2 i;
+      count = Room.kept 1024 u.count u.units h.1 h.0 i;
+    } };
 }
 
 impl Units {

@@ -1,5 +1,5 @@
--- `Laws` has the laws that a crate above may cite, and `Room` those of an array with zeros after a list, for the models of the crates
--- above. The other modules serve the proofs of this crate alone.
+-- `Laws` has the laws that a crate above may cite, and `Room` those of an array with zeros after a list, which the models of the crates
+-- above cite. The other modules serve the proofs of this crate alone.
 pub mod Laws
 pub mod Room
 mod Absorb

@@ -11,22 +11,20 @@ const PASSWORD_BUFFER: usize = 1026;
 
 const TOO_LONG: &str = "standard input is too long: expected at most 1024 octets";
 
-fn wrong_password(error: TextError) -> WrongUse {
-    WrongUse::Input(match error {
-        TextError::NotUtf8 => "the password is wrong: expected UTF-8",
-        TextError::TooLong => TOO_LONG,
-    })
+impl From<TextError> for Failure {
+    fn from(error: TextError) -> Failure {
+        Failure::WrongUse(WrongUse::Input(match error {
+            TextError::NotUtf8 => "the password is wrong: expected UTF-8",
+            TextError::TooLong => TOO_LONG,
+        }))
+    }
 }
 
 // Prints the key of a password, which ends before one closing newline.
 pub fn key(rt: HostRuntime) -> Result<(), Failure> {
     let mut buf = [0; PASSWORD_BUFFER];
     let text = input::read(&mut rt.stdin(), &mut buf, TOO_LONG, input::UNREADABLE)?;
-    // A `match`: the borrow checker has no rule for `?` on a `Result` of a `Copy` type with a `Model` and an error with a `&'static str`.
-    let units = match utf8::units(input::without_newline(text)) {
-        Ok(units) => units,
-        Err(error) => return Err(wrong_password(error).into()),
-    };
+    let units = utf8::units(input::without_newline(text))?;
     let key = key::password_key(units.as_slice())?;
     output::digits(rt, &key)
 }

@@ -38,7 +38,9 @@ impl Arguments {
     }
 
     // Reads the next word into a buffer. It is empty if there is none, and cut off if it is longer than the buffer.
-    fn read<'a>(&mut self, buf: &'a mut [u8; WORD]) -> &'a [u8] {
+    fn read<'a>(&mut self, buf: &'a mut [u8; WORD]) -> &'a [u8]
+        ensures { length result.now ≤ 4096 }
+    {
         let at = self.next;
         self.next = at.saturating_add(1);
         let length = match self.rt.arg(at, buf) {

@@ -89,8 +89,8 @@ impl Billing {
         self.refused = self.refused.wrapping_add(1);
     }
 
-    // Receives the framed token of n octets from `at`, and writes its line. The window is what `receive_framed_wrap` makes of it: the
-    // number of a token that opened is billed, and a refused token leaves the window as it was.
+    // Receives the framed token of n octets from `at`, writes its line, and goes on to the place after it. The window is what
+    // `receive_framed_wrap` makes of it: the number of a token that opened is billed, and a refused token leaves the window as it was.
     fn receive(
         &mut self,
         rt: HostRuntime,
@@ -104,6 +104,7 @@ impl Billing {
         let answer = receive::receive_framed_wrap(self.window, context, buf, at, n);
         self.window = answer.received.window;
         let place = self.place;
+        self.place = place.wrapping_add(n as u64);
         match answer.token {
             Ok(opened) => {
                 let status = StatusWords(answer.received.status);
@@ -144,7 +145,6 @@ impl Billing {
             match capture.next() {
                 Next::Frame(n) => {
                     self.receive(rt, context, &mut capture.buf, capture.at, n)?;
-                    self.place = self.place.wrapping_add(n as u64);
                     capture.skip(n);
                 }
                 Next::More => capture.refill(rt)?,

@@ -1,4 +1,6 @@
 // What is read: standard input and files, to their ends.
+ghost use Rattle.std.specs.Prelude.{◌≡◌, ◌≤◌, length, take, IfOk};
+
 use crate::failure::WrongUse;
 use std::io;
 use std::io::Read;
@@ -20,7 +22,9 @@ pub fn read<'a>(
     buf: &'a mut [u8],
     too_long: &'static str,
     unreadable: &'static str,
-) -> Result<&'a mut [u8], WrongUse> {
+) -> Result<&'a mut [u8], WrongUse>
+    ensures { IfOk result (λ octets. length octets.now ≤ length buf.old) }
+{
     // `read_exact` refuses an input that is shorter than the buffer, and `read_to_end` needs the heap.
     let mut n: usize = 0;
     while n < buf.len() {
@@ -34,7 +38,9 @@ pub fn read<'a>(
 }
 
 // Reads standard input, of at most 65,536 octets.
-pub fn standard(rt: HostRuntime, buf: &mut [u8]) -> Result<&mut [u8], WrongUse> {
+pub fn standard(rt: HostRuntime, buf: &mut [u8]) -> Result<&mut [u8], WrongUse>
+    ensures { IfOk result (λ octets. length octets.now ≤ length buf.old) }
+{
     read(
         &mut rt.stdin(),
         buf,
@@ -44,6 +50,8 @@ pub fn standard(rt: HostRuntime, buf: &mut [u8]) -> Result<&mut [u8], WrongUse> 
 }
 
 // A text without one closing newline.
-pub fn without_newline(text: &[u8]) -> &[u8] {
+pub fn without_newline(text: &[u8]) -> &[u8]
+    ensures { result.now ≡ take (length result.now) text.now }
+{
     text.strip_suffix(b"\n").unwrap_or(text)
 }

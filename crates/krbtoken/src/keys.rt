@@ -11,6 +11,7 @@ const PASSWORD_BUFFER: usize = 1026;
 
 const TOO_LONG: &str = "standard input is too long: expected at most 1024 octets";
 
+// Only `key` below reads a text, so the text is the password.
 impl From<TextError> for Failure {
     fn from(error: TextError) -> Failure {
         Failure::WrongUse(WrongUse::Input(match error {

@@ -2,7 +2,7 @@
 use Rattle.std.proofs.Common.{◌≡◌, ℕ, ◌-◌, ◌≤◌, List, ◌++◌, length, take, drop, replicate, arith, length-take-le, take-append-drop}
 
 module _ (n k : ℕ) (xs : List ℕ) (all : length xs ≡ n) (inside : k ≤ n) where
-  -- the length of the list is that which is kept beside the array
+  -- the length of the list is the number kept beside the array
   pub kept : length (take k xs) ≡ k
   kept = length-take-le k xs (omega (arith, all, inside))
 

@@ -3,7 +3,7 @@ ghost use Rattle.std.specs.Prelude.{◌≡◌, ◌≤◌, length, take};
 
 use std::marker::Model;
 
-// At most N octets. Clauses see them as a list. The list gives the fields back, since zeros stand after it, so it is `Copy`.
+// At most N octets. Clauses see them as a list. Zeros stand after the list, so that it gives the fields back: a `Copy` type needs that.
 #[derive(Clone, Copy, Debug)]
 pub struct Short<const N: usize> {
     octets: [u8; N],
